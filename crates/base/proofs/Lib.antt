@@ -1,0 +1,5 @@
+pub mod Bools
+pub mod Signed
+pub mod Steps
+pub mod Ladders
+pub mod Once

@@ -1,0 +1,4 @@
+pub mod Refusals
+pub mod Outcome
+pub mod Parts
+pub mod Seats

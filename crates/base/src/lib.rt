@@ -1,0 +1,86 @@
+// What every crate stands on: the refusals of document 01, and signed numbers carried to unsigned ones and back.
+ghost use mathlib.Core.Path.{_≡_};
+ghost use Prim.Native.Nat.{_^_};
+ghost use Rattle.base.specs.Refusals.{number};
+ghost use Rattle.base.specs.Parts.{at, within};
+ghost use Rattle.base.specs.Seats.{seatOf};
+
+// Why a call is refused, in the order of document 01's numbers 1 to 9.
+pub enum Refusal {
+    Short,
+    Identification,
+    Unsupported,
+    Field,
+    Uncovered,
+    NoSuchSecond,
+    Range,
+    Room,
+    Window,
+}
+
+impl Refusal {
+    // The document's number of a refusal.
+    pub fn number(self) -> u8
+        ensures { λ r. ⌜ r ≡ number self ⌝ }
+    {
+        match self {
+            Refusal::Short => 1,
+            Refusal::Identification => 2,
+            Refusal::Unsupported => 3,
+            Refusal::Field => 4,
+            Refusal::Uncovered => 5,
+            Refusal::NoSuchSecond => 6,
+            Refusal::Range => 7,
+            Refusal::Room => 8,
+            Refusal::Window => 9,
+        }
+    }
+}
+
+// z + 2^63. All arithmetic on signed numbers is done on these.
+pub fn raised(z: i64) -> u64
+    ensures { λ r. ⌜ at (2 ^ 63) r z ⌝ }
+{
+    if z < 0 {
+        let below = (-1 - z) as u64;
+        9223372036854775807 - below
+    } else {
+        z as u64 + 9223372036854775808
+    }
+}
+
+// n - 2^63
+pub fn lowered(n: u64) -> i64
+    ensures { λ r. ⌜ at (2 ^ 63) n r ⌝ }
+{
+    if n < 9223372036854775808 {
+        let below = (9223372036854775807 - n) as i64;
+        -1 - below
+    } else {
+        (n - 9223372036854775808) as i64
+    }
+}
+
+// lo <= z <= hi
+pub fn between(lo: i64, hi: i64, z: i64) -> bool
+    ensures { λ r. ⌜ r ≡ within lo hi z ⌝ }
+{
+    lo <= z && z <= hi
+}
+
+// A number's place in a range, counted from the range's start.
+pub enum Seat {
+    In(u64),
+    Out,
+}
+
+pub fn seated(lo: i64, hi: i64, z: i64) -> Seat
+    ensures { λ r. ⌜ r ≡ seatOf lo hi z ⌝ }
+{
+    if between(lo, hi, z) {
+        let n = raised(z) - raised(lo);
+        Seat::In(n)
+    } else {
+        Seat::Out
+    }
+}

@@ -1,0 +1,4 @@
+pub mod Laws
+pub mod Promises
+pub mod Once
+pub mod Known
