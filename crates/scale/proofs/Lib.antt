@@ -1,4 +1,5 @@
 pub mod Laws
+pub mod Latest
 pub mod Promises
 pub mod Once
 pub mod Known

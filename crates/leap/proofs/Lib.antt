@@ -1,0 +1,10 @@
+pub mod Days
+pub mod Rows
+pub mod Builtin
+pub mod Outcomes
+pub mod Raised
+pub mod Cover
+pub mod Promises
+pub mod Rule
+pub mod Once
+pub mod Known

@@ -1,0 +1,279 @@
+// The leap second table: the UTC reading of a TAI second, and back. Inside, a day is its index, counted from
+// 0001-01-01, an offset is raised by 64, and a TAI second is raised by both, so that a day begins at
+// day * 86400 + offset.
+use base::Refusal;
+use base::Seat;
+ghost use mathlib.Core.Path.{_≡_};
+ghost use Prim.Native.Nat.{_+_, _-_, _/_, _≤_, _<_, min};
+ghost use lib.ListN.{getD};
+ghost use mathlib.Core.List.{[]};
+ghost use Rattle.leap.specs.Table.{start, dayLength, dayHolding, reading, secondAt, readingAt};
+ghost use Rattle.leap.specs.Utc.{readingOf, secondOf, utcOfSecond, secondOfUtc};
+ghost use Rattle.leap.specs.Answers.{saysRaised, saysReading, saysSecond, saysUtc};
+ghost use Rattle.leap.specs.Builtin.{builtin, published};
+ghost use Rattle.leap.specs.Inner.{rowAt, endAt, Small, OnDay, InSecond};
+
+// A day and TAI minus UTC from it on.
+pub struct Row {
+    pub day: u64,
+    pub offset: u64,
+}
+
+// A day, a second of it (86,400 is 23:59:60), and the day's offset.
+pub struct Reading {
+    pub day: u64,
+    pub second: u64,
+    pub offset: u64,
+}
+
+// The same of signed numbers: the day counted from 1958-01-01, and TAI minus UTC.
+pub struct Utc {
+    pub day: i64,
+    pub second: u64,
+    pub offset: i64,
+}
+
+pub enum ReadingAnswer {
+    Done(Reading),
+    Refused(Refusal),
+}
+
+pub enum UtcAnswer {
+    Done(Utc),
+    Refused(Refusal),
+}
+
+// A raised TAI second.
+pub enum RaisedAnswer {
+    Done(u64),
+    Refused(Refusal),
+}
+
+pub enum SecondAnswer {
+    Done(i64),
+    Refused(Refusal),
+}
+
+// Days are counted from 1958-01-01.
+const LEAPS: [[u64; 2]; 28] = [
+    [5113, 10],
+    [5295, 11],
+    [5479, 12],
+    [5844, 13],
+    [6209, 14],
+    [6574, 15],
+    [6940, 16],
+    [7305, 17],
+    [7670, 18],
+    [8035, 19],
+    [8582, 20],
+    [8947, 21],
+    [9312, 22],
+    [10043, 23],
+    [10957, 24],
+    [11688, 25],
+    [12053, 26],
+    [12600, 27],
+    [12965, 28],
+    [13330, 29],
+    [13879, 30],
+    [14426, 31],
+    [14975, 32],
+    [17532, 33],
+    [18628, 34],
+    [19905, 35],
+    [21000, 36],
+    [21550, 37],
+];
+
+// The UTC reading of a TAI second.
+pub fn utc_of_second(sec: i64) -> UtcAnswer
+    ensures { λ r. ⌜ saysUtc r ≡ utcOfSecond builtin sec ⌝ }
+{
+    match reading_of(sec) {
+        ReadingAnswer::Refused(why) => UtcAnswer::Refused(why),
+        ReadingAnswer::Done(r) => {
+            let day = base::lowered(r.day + 9223372036854061029);
+            let offset = base::lowered(r.offset + 9223372036854775744);
+            UtcAnswer::Done(Utc {
+                day: day,
+                second: r.second,
+                offset: offset,
+            })
+        }
+    }
+}
+
+// The TAI second of a second of a UTC day.
+pub fn second_of_utc(day: i64, second: u64) -> SecondAnswer
+    ensures { λ r. ⌜ saysSecond r ≡ secondOfUtc builtin day second ⌝ }
+{
+    if 86400 < second {
+        return SecondAnswer::Refused(Refusal::Field);
+    }
+    match base::seated(5113, 24836, day) {
+        Seat::Out => SecondAnswer::Refused(Refusal::Uncovered),
+        Seat::In(n) => second_of(n + 719892, second),
+    }
+}
+
+// The same with the day's index.
+pub fn reading_of(sec: i64) -> ReadingAnswer
+    ensures { λ r. ⌜ saysReading r ≡ readingOf builtin sec ⌝ }
+{
+    match base::seated(441763210, 2145916836, sec) {
+        Seat::Out => ReadingAnswer::Refused(Refusal::Uncovered),
+        Seat::In(n) => ReadingAnswer::Done(locate(n + 62198668874)),
+    }
+}
+
+pub fn second_of(day: u64, second: u64) -> SecondAnswer
+    ensures { λ r. ⌜ saysSecond r ≡ secondOf builtin day second ⌝ }
+{
+    match second_at(day, second) {
+        RaisedAnswer::Refused(why) => SecondAnswer::Refused(why),
+        RaisedAnswer::Done(s) => SecondAnswer::Done(base::lowered(s + 9223371975097870144)),
+    }
+}
+
+// The raised TAI second of a second of a day.
+pub fn second_at(day: u64, second: u64) -> RaisedAnswer
+    ensures { λ r. ⌜ saysRaised r ≡ secondAt builtin day second ⌝ }
+{
+    if 86400 < second {
+        return RaisedAnswer::Refused(Refusal::Field);
+    }
+    if day < 719892 {
+        return RaisedAnswer::Refused(Refusal::Uncovered);
+    }
+    if 739615 < day {
+        return RaisedAnswer::Refused(Refusal::Uncovered);
+    }
+    let i = row_on_day(day);
+    if length_of(day, i) <= second {
+        return RaisedAnswer::Refused(Refusal::NoSuchSecond);
+    }
+    let row = row_at(i);
+    RaisedAnswer::Done(day * 86400 + second + row.offset)
+}
+
+// The reading of a raised TAI second.
+pub fn reading_at(s: u64) -> ReadingAnswer
+    ensures { λ r. ⌜ saysReading r ≡ readingAt builtin s ⌝ }
+{
+    if s < 62198668874 {
+        return ReadingAnswer::Refused(Refusal::Uncovered);
+    }
+    if 63902822500 < s {
+        return ReadingAnswer::Refused(Refusal::Uncovered);
+    }
+    ReadingAnswer::Done(locate(s))
+}
+
+// Row i, as it was published.
+fn published(i: usize, column: usize) -> u64
+    requires { ⌜ (i < 28) × (column < 2) ⌝ }
+    ensures { λ r. ⌜ r ≡ getD (getD published i []) column 0 ⌝ }
+{
+    LEAPS[i][column]
+}
+
+// Row i.
+fn row_at(i: usize) -> Row
+    requires { ⌜ i < 28 ⌝ }
+    ensures { λ r. ⌜ (r ≡ rowAt builtin i) × Small r ⌝ }
+{
+    let day = published(i, 0);
+    let offset = published(i, 1);
+    Row {
+        day: day + 714779,
+        offset: offset + 64,
+    }
+}
+
+// What ends row i: the next row, or the first day past the cover.
+fn end_at(i: usize) -> Row
+    requires { ⌜ i < 28 ⌝ }
+    ensures { λ r. ⌜ (r ≡ endAt builtin i) × Small r ⌝ }
+{
+    if i < 27 {
+        return row_at(i + 1);
+    }
+    Row {
+        day: 739616,
+        offset: 101,
+    }
+}
+
+// The row in force on a covered day: from the last one back, where most days are.
+fn row_on_day(day: u64) -> usize
+    requires { ⌜ (719892 ≤ day) × (day < 739616) ⌝ }
+    ensures { λ i. ⌜ OnDay builtin day i ⌝ }
+{
+    let mut i = 27;
+    while 0 < i {
+        let row = row_at(i);
+        if row.day <= day {
+            return i;
+        }
+        i -= 1;
+    }
+    i
+}
+
+// The row in force in a covered TAI second.
+fn row_in_second(s: u64) -> usize
+    requires { ⌜ (62198668874 ≤ s) × (s < 63902822501) ⌝ }
+    ensures { λ i. ⌜ InSecond builtin s i ⌝ }
+{
+    let mut i = 27;
+    while 0 < i {
+        let row = row_at(i);
+        if row.day * 86400 + row.offset <= s {
+            return i;
+        }
+        i -= 1;
+    }
+    i
+}
+
+// The seconds of a covered day, on which row i is in force.
+fn length_of(day: u64, i: usize) -> u64
+    requires { ⌜ OnDay builtin day i ⌝ }
+    ensures { λ r. ⌜ r ≡ dayLength builtin day ⌝ }
+{
+    let row = row_at(i);
+    let end = end_at(i);
+    if day + 1 < end.day {
+        return 86400;
+    }
+    86400 + end.offset - row.offset
+}
+
+// The reading of a covered TAI second.
+fn locate(s: u64) -> Reading
+    requires { ⌜ (62198668874 ≤ s) × (s < 63902822501) ⌝ }
+    ensures { λ r. ⌜ r ≡ reading builtin (dayHolding builtin s) (s - start builtin (dayHolding builtin s)) ⌝ }
+{
+    let i = row_in_second(s);
+    let row = row_at(i);
+    let day = day_in(s, row, end_at(i));
+    Reading {
+        day: day,
+        second: s - (day * 86400 + row.offset),
+        offset: row.offset,
+    }
+}
+
+// The day of a second between a row's begin and its end: the last day before the end has 23:59:60 too.
+fn day_in(s: u64, row: Row, end: Row) -> u64
+    requires { ⌜ (row .offset ≤ s) × (0 < end .day) ⌝ }
+    ensures { λ r. ⌜ r ≡ min ((s - row .offset) / 86400) (end .day - 1) ⌝ }
+{
+    let day = (s - row.offset) / 86400;
+    let last = end.day - 1;
+    if day < last {
+        return day;
+    }
+    last
+}

@@ -1,0 +1,68 @@
+-- `octets::put_count` meets its contract.
+use mathlib.Core.Path.{sym, _∙_}
+use native.Mathlib.Omega.{arith}
+use borrow.Author.Needs.{needs}
+use borrow.Author.Tests.{not-true, not-false}
+use Rattle.octets.specs.Places.{octetOf}
+use Rattle.octets.proofs.Turns.{Write, stay, begin, step, finish}
+use Rattle.octets.proofs.put_count.Statement.{statement}
+use Rattle.octets.proofs.put_count.Tie as tie
+
+abbrev Inv-loop : tie.InvT-loop
+Inv-loop out₀ at w n len m₀ k₀ out m k = Write 256 octetOf out₀ at w n out m k
+
+abbrev μ-loop : tie.MeasureT-loop
+μ-loop out₀ at w n len m₀ k₀ out m k = k
+
+fits-requires : tie.Need-fits-requires Inv-loop μ-loop
+fits-requires c κs = search needs
+
+returns : tie.Need-returns Inv-loop μ-loop
+returns c =
+    let a = c .before .before .before .args in
+    stay 256 octetOf (a .at) (a .out .now) (a .w) (a .n) (sym (c .before .fits2 .ensures) ∙ not-true _ (c .if1 .taken))
+
+loop-holds : tie.Need-loop-holds Inv-loop μ-loop
+loop-holds c = begin (sym (c .before .fits2 .ensures) ∙ not-false _ (c .if1 .left))
+
+sub-k : tie.Need-sub-k Inv-loop μ-loop
+sub-k c = search needs
+
+cast-out : tie.Need-cast-out Inv-loop μ-loop
+cast-out c = search needs
+
+add-out : tie.Need-add-out Inv-loop μ-loop
+add-out c = search needs
+
+slice-write-out : tie.Need-slice-write-out Inv-loop μ-loop
+slice-write-out c = search needs
+
+loop-less : tie.Need-loop-less Inv-loop μ-loop
+loop-less c = search needs
+
+loop-again : tie.Need-loop-again Inv-loop μ-loop
+loop-again c = step (c .before .loop .inv) (omega arith)
+
+same-length : tie.Need-same-length Inv-loop μ-loop
+same-length c = c .before .loop .inv .size
+
+returns-2 : tie.Need-returns-2 Inv-loop μ-loop
+returns-2 c = finish (c .before .loop .inv) (omega arith)
+
+pub put-count-spec : {M : Type 1} → statement M
+put-count-spec =
+    tie.close
+    (tie.spec
+    Inv-loop
+    μ-loop
+    fits-requires
+    returns
+    loop-holds
+    sub-k
+    cast-out
+    add-out
+    slice-write-out
+    loop-less
+    loop-again
+    same-length
+    returns-2)

@@ -1,0 +1,5 @@
+pub mod Places
+pub mod Counts
+pub mod Stores
+pub mod Powers
+pub mod Writes
