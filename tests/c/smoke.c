@@ -55,10 +55,75 @@ static void shifts(void)
            hz_shift(LAST, HZ_TICKS - 1, 2 * FIRST, 1, &sec, &ticks) == 0 && sec == FIRST && ticks == 0);
 }
 
+static void days(void)
+{
+    int64_t number = 17;
+
+    expect("February 29 in 1900 is refused", hz_day_of_date(1900, 2, 29, &number) == HZ_FIELD);
+    expect("year 0 is refused", hz_day_of_date(0, 12, 31, &number) == HZ_FIELD);
+    expect("day 366 of 2023 is refused", hz_day_of_ordinal(2023, 366, &number) == HZ_FIELD);
+    expect("a refusal writes nothing", number == 17);
+    expect("day 0", hz_day_of_date(1958, 1, 1, &number) == 0 && number == 0);
+    expect("the first day", hz_day_of_date(1, 1, 1, &number) == 0 && number == HZ_FIRST_DAY);
+    expect("the last day", hz_day_of_date(9999, 12, 31, &number) == 0 && number == HZ_LAST_DAY);
+    expect("February 29 in 2000", hz_day_of_date(2000, 2, 29, &number) == 0 && number == 15399);
+    expect("day 366 of 2016", hz_day_of_ordinal(2016, 366, &number) == 0 && number == 21549);
+}
+
+static void dates(void)
+{
+    uint64_t year = 17, month = 18, day = 19;
+
+    expect("the day before the first is refused",
+           hz_date_of_day(HZ_FIRST_DAY - 1, &year, &month, &day) == HZ_RANGE);
+    expect("the day after the last is refused", hz_ordinal_of_day(HZ_LAST_DAY + 1, &year, &day) == HZ_RANGE);
+    expect("a refusal writes nothing", year == 17 && month == 18 && day == 19);
+    expect("the day before day 0",
+           hz_date_of_day(-1, &year, &month, &day) == 0 && year == 1957 && month == 12 && day == 31);
+    expect("the first date",
+           hz_date_of_day(HZ_FIRST_DAY, &year, &month, &day) == 0 && year == 1 && month == 1 && day == 1);
+    expect("day of the year of 2016-12-31",
+           hz_ordinal_of_day(21549, &year, &day) == 0 && year == 2016 && day == 366);
+}
+
+static void readings(void)
+{
+    int64_t day = 17, offset = 18;
+    uint64_t second = 19;
+
+    expect("the second before the cover is refused",
+           hz_utc_of_second(441763209, &day, &second, &offset) == HZ_UNCOVERED);
+    expect("the second after the cover is refused",
+           hz_utc_of_second(2145916837, &day, &second, &offset) == HZ_UNCOVERED);
+    expect("a refusal writes nothing", day == 17 && second == 19 && offset == 18);
+    expect("1972-01-01T00:00:00", hz_utc_of_second(441763210, &day, &second, &offset) == 0 && day == 5113 &&
+                                      second == 0 && offset == 10);
+    expect("2016-12-31T23:59:60", hz_utc_of_second(1861920036, &day, &second, &offset) == 0 && day == 21549 &&
+                                      second == 86400 && offset == 36);
+    expect("2017-01-01T00:00:00", hz_utc_of_second(1861920037, &day, &second, &offset) == 0 && day == 21550 &&
+                                      second == 0 && offset == 37);
+}
+
+static void seconds(void)
+{
+    int64_t sec = 17;
+
+    expect("a second over 86400 is refused first", hz_second_of_utc(24837, 86401, &sec) == HZ_FIELD);
+    expect("then 2026-01-01", hz_second_of_utc(24837, 86400, &sec) == HZ_UNCOVERED);
+    expect("then 2015-12-31T23:59:60", hz_second_of_utc(21183, 86400, &sec) == HZ_NO_SUCH_SECOND);
+    expect("a refusal writes nothing", sec == 17);
+    expect("back to the leap second", hz_second_of_utc(21549, 86400, &sec) == 0 && sec == 1861920036);
+    expect("back to the midnight after it", hz_second_of_utc(21550, 0, &sec) == 0 && sec == 1861920037);
+}
+
 int main(void)
 {
     differences();
     shifts();
+    days();
+    dates();
+    readings();
+    seconds();
     if (!wrong) {
         printf("smoke: all as known\n");
     }

@@ -1,7 +1,7 @@
 //! The C interface as it is, made safe: each call answers 0 or a refusal number, writes its result cells
 //! only with the answer 0, and otherwise leaves them as they were.
 //!
-//! The calls at the crate's root say the same with [`Result`](core::result::Result).
+//! The calls at the crate's root say the same with [`Result`].
 
 #![allow(unsafe_code)]
 
@@ -23,6 +23,17 @@ mod c {
             to_sec: *mut i64,
             to_ticks: *mut u64,
         ) -> u8;
+        pub fn hz_day_of_date(year: u64, month: u64, day: u64, number: *mut i64) -> u8;
+        pub fn hz_date_of_day(number: i64, year: *mut u64, month: *mut u64, day: *mut u64) -> u8;
+        pub fn hz_day_of_ordinal(year: u64, day: u64, number: *mut i64) -> u8;
+        pub fn hz_ordinal_of_day(number: i64, year: *mut u64, day: *mut u64) -> u8;
+        pub fn hz_utc_of_second(
+            sec: i64,
+            day: *mut i64,
+            second_of_day: *mut u64,
+            offset: *mut i64,
+        ) -> u8;
+        pub fn hz_second_of_utc(day: i64, second_of_day: u64, sec: *mut i64) -> u8;
     }
 }
 
@@ -50,4 +61,40 @@ pub fn shift(
 ) -> u8 {
     // SAFETY: numbers may hold anything, and two exclusive references are two cells apart.
     unsafe { c::hz_shift(sec, ticks, by_sec, by_ticks, to_sec, to_ticks) }
+}
+
+/// The day number of a date.
+pub fn day_of_date(year: u64, month: u64, day: u64, number: &mut i64) -> u8 {
+    // SAFETY: numbers may hold anything, and an exclusive reference is a cell.
+    unsafe { c::hz_day_of_date(year, month, day, number) }
+}
+
+/// The date of a day number.
+pub fn date_of_day(number: i64, year: &mut u64, month: &mut u64, day: &mut u64) -> u8 {
+    // SAFETY: numbers may hold anything, and three exclusive references are three cells apart.
+    unsafe { c::hz_date_of_day(number, year, month, day) }
+}
+
+/// The day number of a day of a year.
+pub fn day_of_ordinal(year: u64, day: u64, number: &mut i64) -> u8 {
+    // SAFETY: numbers may hold anything, and an exclusive reference is a cell.
+    unsafe { c::hz_day_of_ordinal(year, day, number) }
+}
+
+/// The year and day of the year of a day number.
+pub fn ordinal_of_day(number: i64, year: &mut u64, day: &mut u64) -> u8 {
+    // SAFETY: numbers may hold anything, and two exclusive references are two cells apart.
+    unsafe { c::hz_ordinal_of_day(number, year, day) }
+}
+
+/// The UTC reading of a TAI second.
+pub fn utc_of_second(sec: i64, day: &mut i64, second_of_day: &mut u64, offset: &mut i64) -> u8 {
+    // SAFETY: numbers may hold anything, and three exclusive references are three cells apart.
+    unsafe { c::hz_utc_of_second(sec, day, second_of_day, offset) }
+}
+
+/// The TAI second of a UTC reading.
+pub fn second_of_utc(day: i64, second_of_day: u64, sec: &mut i64) -> u8 {
+    // SAFETY: numbers may hold anything, and an exclusive reference is a cell.
+    unsafe { c::hz_second_of_utc(day, second_of_day, sec) }
 }

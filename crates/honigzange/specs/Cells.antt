@@ -2,6 +2,12 @@
 use Prim.Native.Nat.{ℕ}
 use lib.IntN.{ℤ}
 use Rattle.scale.specs.Time.{Time}
+use Rattle.calendar.specs.declared.Date.{Date}
+use Rattle.calendar.specs.declared.Ordinal.{Ordinal}
+use Rattle.leap.specs.declared.Utc.{Utc}
+
+abbrev pub itself : ℤ → ℤ
+itself z = z
 
 abbrev pub time : ℤ → ℕ → Time
 time s n = record { sec = s; ticks = n }
@@ -11,3 +17,27 @@ secOf t = t .sec
 
 abbrev pub ticksOf : Time → ℕ
 ticksOf t = t .ticks
+
+abbrev pub yearOf : Date → ℕ
+yearOf t = t .year
+
+abbrev pub monthOf : Date → ℕ
+monthOf t = t .month
+
+abbrev pub dayOf : Date → ℕ
+dayOf t = t .day
+
+abbrev pub ordinalYear : Ordinal → ℕ
+ordinalYear o = o .year
+
+abbrev pub ordinalDay : Ordinal → ℕ
+ordinalDay o = o .day
+
+abbrev pub utcDay : Utc → ℤ
+utcDay u = u .day
+
+abbrev pub utcSecond : Utc → ℕ
+utcSecond u = u .second
+
+abbrev pub utcOffset : Utc → ℤ
+utcOffset u = u .offset

@@ -3,5 +3,7 @@
 
 #![forbid(unsafe_code)]
 
+pub mod calendar;
+pub mod leap;
 pub mod rng;
 pub mod scale;

@@ -5,27 +5,43 @@
 use honigzange::{Record, Span};
 use second::rng::{i64_edges, u64_edges, Rng};
 
-/// How often the second program was done, and how often it refused.
+/// How often the second program gave each answer: done at 0, and each refusal at its number.
 #[derive(Default, Debug)]
-pub struct Tally {
-    done: u64,
-    refused: u64,
-}
+pub struct Tally([u64; 10]);
 
 impl Tally {
     pub fn count<T>(&mut self, answer: &Result<T, u8>) {
-        match answer {
-            Ok(_) => self.done += 1,
-            Err(_) => self.refused += 1,
-        }
+        let number = answer.as_ref().err().copied().unwrap_or(0);
+        self.0[usize::from(number)] += 1;
     }
 
     /// A comparison that hits one kind of answer alone shows little.
     pub fn assert_over(&self, done: u64, refused: u64) {
+        let all_refused = self.0[1..].iter().sum::<u64>();
         assert!(
-            self.done > done && self.refused > refused,
+            self.0[0] > done && all_refused > refused,
             "too few of a kind: {self:?}"
         );
+    }
+
+    /// Each answer of these was given more often than said, and no other was given.
+    pub fn assert_each_over(&self, floors: &[(u8, u64)]) {
+        let given = self.given();
+        let over = given.len() == floors.len()
+            && given
+                .iter()
+                .zip(floors)
+                .all(|(given, floor)| given.0 == floor.0 && given.1 > floor.1);
+        assert!(over, "too few of a kind, or another kind: {given:?}");
+    }
+
+    /// Each answer of these was given just as often as said, and no other was given.
+    pub fn assert_exactly(&self, counts: &[(u8, u64)]) {
+        assert_eq!(self.given(), counts);
+    }
+
+    fn given(&self) -> Vec<(u8, u64)> {
+        (0..).zip(self.0).filter(|&(_, count)| count > 0).collect()
     }
 }
 
@@ -108,4 +124,10 @@ pub fn span(rng: &mut Rng) -> Span {
         sec: rng.between(-1 << 42, (1 << 42) - 1),
         ticks: rng.below(Record::TICKS),
     }
+}
+
+/// A number whose low bits are those of another: a narrower type would take them for the same.
+pub fn widened(rng: &mut Rng, low: u64) -> u64 {
+    let bits = rng.pick(&[8, 16, 31, 32, 63]);
+    (low & ((1 << bits) - 1)) | (rng.u64() << bits)
 }
