@@ -1,5 +1,5 @@
 -- `leap::length_of` meets its contract.
-use mathlib.Core.Path.{_≡_, sym, _∙_}
+use mathlib.Core.Path.{_≡_, sym, ap, _∙_}
 use Prim.Native.Nat.{_+_, _≤_, _<_}
 use native.Mathlib.Omega.{arith}
 use borrow.Author.Needs.{needs}
@@ -43,8 +43,8 @@ returns-2 : tie.Need-returns-2
 returns-2 c =
     let e = c .before .before .before .before in
     let n : e .before .before .args .day + 1 ≡ e .end-at .result .day = omega (arith, ended e) in
-    rw (e .end-at .ensures .0, e .before .row-at .ensures .0)
-    (sym (length-end builtin builtin-good (e .before .before .args .i) (inside e) (e .before .before .args .day) (e .before .before .pre .low) (rw (e .end-at .ensures .0) at n)))
+    let l = length-end builtin builtin-good (e .before .before .args .i) (inside e) (e .before .before .args .day) (e .before .before .pre .low) (rw (e .end-at .ensures .0) at n) in
+    omega (arith, l, ap (λ (x : Row). x .offset) (e .end-at .ensures .0), ap (λ (x : Row). x .offset) (e .before .row-at .ensures .0))
 
 pub length-of-spec : {M : Type 1} → statement M
 length-of-spec =
