@@ -21,7 +21,7 @@
  *
  * POINTERS. A pointer to lent bytes or a lent list may be NULL only when its length is 0. A pointer to a
  * result is never NULL and is aligned for its type. No two result cells or lent buffers of a call overlap.
- * Every bit pattern is allowed in all other arguments.
+ * A bool is true or false. Every bit pattern is allowed in all other arguments.
  *
  * No function allocates, keeps a pointer, or keeps state: all may be called from any threads at once, as
  * long as no two calls share memory that one of them writes.
@@ -29,6 +29,8 @@
 #ifndef HONIGZANGE_H
 #define HONIGZANGE_H
 
+#include <stdbool.h>
+#include <stddef.h>
 #include <stdint.h>
 
 #ifdef __cplusplus
@@ -41,6 +43,9 @@ extern "C" {
 /* The first and the last day number of the calendar: 0001-01-01 and 9999-12-31. */
 #define HZ_FIRST_DAY (-INT64_C(714779))
 #define HZ_LAST_DAY INT64_C(2937279)
+
+/* Bytes that hold any binary code, its P octet in front: at most 8 for CUC, 12 for CDS and 14 for CCS. */
+#define HZ_BINARY_ROOM 14
 
 /* Refusal numbers. */
 #define HZ_SHORT 1          /* binary bytes run out, or ASCII is empty */
@@ -157,6 +162,107 @@ uint8_t hz_utc_of_second(int64_t sec, int64_t *day, uint64_t *second_of_day, int
  * HZ_NO_SUCH_SECOND  second_of_day is 86400 and the day does not end with a leap second.
  */
 uint8_t hz_second_of_utc(int64_t day, uint64_t second_of_day, int64_t *sec);
+
+/*
+ * BINARY CODES. A code is a T-field, and a P octet that says how it is laid out. The P octet stands in front
+ * of the T-field or is known to both ends. Its bit 0 is the most significant:
+ *
+ *   bit    CUC                        CDS                              CCS
+ *   0      0                          0                                0
+ *   1-3    001 epoch 1958             100                              101
+ *          010 the caller's epoch
+ *   4      coarse octets less one,    0 epoch 1958,                    0 month and day,
+ *          bits 4-5: 1 to 4 octets    1 the caller's epoch             1 day of the year
+ *   5                                 0 day in 16 bits, 1 in 24        segments of the fraction,
+ *   6-7    fine octets, 0 to 3        00 no remainder, 01 microsecond  bits 5-7: 0 to 6
+ *                                     10 picosecond, 11 refused        (7 refused)
+ *
+ * CUC counts TAI, the others show UTC. Counts are big-endian. The T-field:
+ *
+ *   CUC    Whole seconds from the epoch in the coarse octets; the fraction in the fine octets, in units of
+ *          1/256, 1/256^2 or 1/256^3 s. 1958 is 1958-01-01T00:00:00 TAI. The caller's epoch is a count of
+ *          whole TAI seconds from there, from -2^40 to 2^40 - 1.
+ *   CDS    UTC days from the epoch; millisecond of the day (32 bits, 0 to 86400999, from 86400000 on in a
+ *          leap second); remainder, the microsecond (16 bits, 0 to 999) or the picosecond (32 bits, 0 to
+ *          999999999) of the millisecond. 1958 is 1958-01-01. The caller's epoch is a day number, from
+ *          -2^24 to 2^24 - 1.
+ *   CCS    Two decimal digits an octet: year (2 octets, 0001 to 9999); month and day, or day of the year (2
+ *          octets, the first digit 0); hour; minute; second (60 at 23:59 alone); then two digits of the
+ *          fraction a segment.
+ *
+ * 2016-12-31T23:59:60 UTC, which is TAI second 1861920036, with the P octet in front:
+ *
+ *   CUC    1C 6E FA A5 24
+ *   CDS    40 54 2D 05 26 5C 00
+ *   CCS    50 20 16 12 31 23 59 60 by month and day, 58 20 16 03 66 23 59 60 by day of the year
+ *
+ *     uint8_t code[HZ_BINARY_ROOM], refusal;
+ *     size_t written, used;
+ *     int64_t sec;
+ *     uint64_t ticks;
+ *     refusal = hz_write_binary(1861920036, 0, true, 0x50, 0, code, sizeof code, &written);
+ *     if (refusal == 0)
+ *         refusal = hz_read_binary(code, written, true, 0, 0, &sec, &ticks, &used);
+ *
+ * Now refusal is 0, written and used are 8, sec is 1861920036 and ticks 0.
+ */
+
+/*
+ * The moment of a binary code. hz_write_binary of it, with the same P octet and epoch, gives the same bytes.
+ *
+ * bytes, len: the code is at their start, and any bytes may follow it. NULL only when len is 0.
+ * front: true, the P octet is the first byte; false, it is p and the T-field begins at the first byte.
+ * p: the P octet. Ignored when front is true.
+ * epoch: whole TAI seconds (CUC 010) or a day number (CDS with bit 4 set). Ignored, whatever it is, by a
+ *        code that does not use it.
+ * sec, ticks: the record is written here.
+ * used: the number of bytes that are the code's, the P octet in front among them, is written here: the
+ *       unread part is the last len - used bytes. After a refusal nothing is written, and all are unread.
+ *
+ * 0                  done.
+ *
+ * Refused with the first of these that holds:
+ * HZ_SHORT           front is true and len is 0.
+ * HZ_IDENTIFICATION  bits 1-3 of the P octet are 000, 011, 110 or 111.
+ * HZ_UNSUPPORTED     its bit 0 is set; it is CDS with 11 in bits 6-7; it is CCS with 111 in bits 5-7.
+ * HZ_RANGE           the code uses the epoch, and that is outside its range.
+ * HZ_SHORT           the bytes end before the T-field does.
+ * HZ_FIELD           a field of CDS or CCS is outside its range, a digit of CCS is over 9, or there is no
+ *                    such date in the calendar. CUC has no such rule.
+ * HZ_UNCOVERED       the UTC day of CDS or CCS is outside the table of leap seconds.
+ * HZ_NO_SUCH_SECOND  second 60 in CCS, or a millisecond from 86400000 on in CDS, on a UTC day that does not
+ *                    end with a leap second.
+ */
+uint8_t hz_read_binary(const uint8_t *bytes, size_t len, bool front, uint8_t p, int64_t epoch,
+                       int64_t *sec, uint64_t *ticks, size_t *used);
+
+/*
+ * The binary code of a moment. What the code can't hold of the fraction is dropped, never rounded up: the
+ * code shows the latest time it can that is not after the moment, and hz_read_binary of it gives that time.
+ *
+ * sec, ticks: the record.
+ * front: true, the P octet is written before the T-field; false, the T-field alone is.
+ * p: the P octet.
+ * epoch: whole TAI seconds (CUC 010) or a day number (CDS with bit 4 set). Ignored, whatever it is, by a
+ *        code that does not use it.
+ * out, room: the code is written to the first bytes; later ones stay as they were. NULL only when room is
+ *            0. A room of HZ_BINARY_ROOM is always enough.
+ * written: the number of bytes of the code, the P octet in front among them, is written here.
+ *
+ * 0                  done.
+ *
+ * Refused with the first of these that holds:
+ * HZ_RANGE           the record is invalid.
+ * HZ_IDENTIFICATION  bits 1-3 of the P octet are 000, 011, 110 or 111.
+ * HZ_UNSUPPORTED     its bit 0 is set; it is CDS with 11 in bits 6-7; it is CCS with 111 in bits 5-7.
+ * HZ_RANGE           the code uses the epoch, and that is outside its range.
+ * HZ_UNCOVERED       the code is CDS or CCS, and the moment is outside the table of leap seconds.
+ * HZ_RANGE           the moment's whole seconds (CUC) or UTC day (CDS) are before the epoch, or too far
+ *                    after it for the octets of their field.
+ * HZ_ROOM            room is less than the bytes of the code. Nothing of it is written.
+ */
+uint8_t hz_write_binary(int64_t sec, uint64_t ticks, bool front, uint8_t p, int64_t epoch,
+                        uint8_t *out, size_t room, size_t *written);
 
 #ifdef __cplusplus
 }

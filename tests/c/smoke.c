@@ -2,6 +2,7 @@
 #include "honigzange.h"
 
 #include <stdio.h>
+#include <string.h>
 
 #define HALF (HZ_TICKS / 2)
 #define FIRST (-(INT64_C(1) << 40) * 2)
@@ -116,6 +117,71 @@ static void seconds(void)
     expect("back to the midnight after it", hz_second_of_utc(21550, 0, &sec) == 0 && sec == 1861920037);
 }
 
+/* 2016-12-31T23:59:60 in every code, the P octet in front. */
+static const struct {
+    size_t length;
+    uint8_t bytes[8];
+} codes[] = {
+    {5, {0x1C, 0x6E, 0xFA, 0xA5, 0x24}},
+    {7, {0x40, 0x54, 0x2D, 0x05, 0x26, 0x5C, 0x00}},
+    {8, {0x58, 0x20, 0x16, 0x03, 0x66, 0x23, 0x59, 0x60}},
+    {8, {0x50, 0x20, 0x16, 0x12, 0x31, 0x23, 0x59, 0x60}},
+};
+
+static void reads(void)
+{
+    int64_t sec = 17;
+    uint64_t ticks = 18;
+    size_t used = 19, i;
+
+    expect("no P octet is refused", hz_read_binary(NULL, 0, true, 0x1C, 0, &sec, &ticks, &used) == HZ_SHORT);
+    expect("no T-field is refused", hz_read_binary(NULL, 0, false, 0x1C, 0, &sec, &ticks, &used) == HZ_SHORT);
+    expect("before that a bad epoch is",
+           hz_read_binary(NULL, 0, false, 0x2C, INT64_C(1) << 40, &sec, &ticks, &used) == HZ_RANGE);
+    for (i = 0; i < sizeof codes / sizeof *codes; i++) {
+        const uint8_t *bytes = codes[i].bytes;
+        size_t length = codes[i].length;
+
+        expect("a code cut short is refused",
+               hz_read_binary(bytes, length - 1, true, 0, 0, &sec, &ticks, &used) == HZ_SHORT);
+        expect("a refusal writes nothing", sec == 17 && ticks == 18 && used == 19);
+        expect("the leap second, P octet in front",
+               hz_read_binary(bytes, length, true, 0, 0, &sec, &ticks, &used) == 0 && sec == 1861920036 &&
+                   ticks == 0 && used == length);
+        sec = 17;
+        expect("the leap second, P octet apart",
+               hz_read_binary(bytes + 1, length - 1, false, bytes[0], 0, &sec, &ticks, &used) == 0 &&
+                   sec == 1861920036 && ticks == 0 && used == length - 1);
+        sec = 17, ticks = 18, used = 19;
+    }
+}
+
+static void writes(void)
+{
+    uint8_t out[HZ_BINARY_ROOM], none[HZ_BINARY_ROOM];
+    size_t written = 17, i;
+
+    memset(none, 0xEE, sizeof none);
+    expect("no room is refused", hz_write_binary(0, 0, false, 0x1C, 0, NULL, 0, &written) == HZ_ROOM);
+    for (i = 0; i < sizeof codes / sizeof *codes; i++) {
+        const uint8_t *bytes = codes[i].bytes;
+        size_t length = codes[i].length;
+
+        memset(out, 0xEE, sizeof out);
+        expect("a room too short is refused",
+               hz_write_binary(1861920036, 0, true, bytes[0], 0, out, length - 1, &written) == HZ_ROOM);
+        expect("a refusal writes nothing", memcmp(out, none, sizeof out) == 0 && written == 17);
+        expect("the leap second, P octet in front",
+               hz_write_binary(1861920036, 0, true, bytes[0], 0, out, sizeof out, &written) == 0 &&
+                   written == length && memcmp(out, bytes, length) == 0);
+        expect("later bytes stay", memcmp(out + length, none, sizeof out - length) == 0);
+        expect("a tick after it, P octet apart",
+               hz_write_binary(1861920036, 1, false, bytes[0], 0, out, length - 1, &written) == 0 &&
+                   written == length - 1 && memcmp(out, bytes + 1, length - 1) == 0);
+        written = 17;
+    }
+}
+
 int main(void)
 {
     differences();
@@ -124,6 +190,8 @@ int main(void)
     dates();
     readings();
     seconds();
+    reads();
+    writes();
     if (!wrong) {
         printf("smoke: all as known\n");
     }

@@ -1,7 +1,7 @@
 //! CCSDS 301.0-B-4 time codes on one exact scale: the safe calls over the proved library.
 //!
-//! No call allocates, keeps state, panics or rounds. A call that cannot answer says why with a
-//! [`Refusal`].
+//! No call allocates, keeps state, panics or rounds: a code that cannot hold the whole of a fraction has it
+//! taken downward. A call that cannot answer says why with a [`Refusal`].
 //!
 //! The table of leap seconds covers the UTC days 1972-01-01 to 2025-12-31 and no others. A call that needs
 //! UTC outside them, as a clock of 2026 does, is refused with [`Refusal::Uncovered`]: nothing is
@@ -19,17 +19,33 @@
 //! assert_eq!(shift(before, apart)?, after);
 //! # Ok::<(), honigzange::Refusal>(())
 //! ```
+//!
+//! ```
+//! use honigzange::{read_binary, write_binary, BinarySetting, Preamble, BINARY_ROOM};
+//!
+//! // 2016-12-31T23:59:60 UTC came as CDS, and goes on as CUC with four coarse octets.
+//! let link = [0x40, 0x54, 0x2D, 0x05, 0x26, 0x5C, 0x00];
+//! let (record, unread) = read_binary(&link, Preamble::Front, 0)?;
+//! assert!(unread.is_empty());
+//! let mut code = [0; BINARY_ROOM];
+//! let setting = BinarySetting { p: 0x1C, epoch: 0, front: true };
+//! let written = write_binary(record, setting, &mut code)?;
+//! assert_eq!(code[..written], [0x1C, 0x6E, 0xFA, 0xA5, 0x24]);
+//! # Ok::<(), honigzange::Refusal>(())
+//! ```
 
 #![no_std]
 #![deny(unsafe_code)]
 #![deny(missing_docs)]
 
+mod binary;
 mod calendar;
 mod leap;
 pub mod raw;
 mod refusal;
 mod scale;
 
+pub use binary::{read_binary, write_binary, BinarySetting, Preamble, BINARY_ROOM};
 pub use calendar::{
     date_of_day, day_of_date, day_of_ordinal, ordinal_of_day, Date, Ordinal, FIRST_DAY, LAST_DAY,
 };

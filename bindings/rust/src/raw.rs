@@ -34,6 +34,26 @@ mod c {
             offset: *mut i64,
         ) -> u8;
         pub fn hz_second_of_utc(day: i64, second_of_day: u64, sec: *mut i64) -> u8;
+        pub fn hz_read_binary(
+            bytes: *const u8,
+            len: usize,
+            front: bool,
+            p: u8,
+            epoch: i64,
+            sec: *mut i64,
+            ticks: *mut u64,
+            used: *mut usize,
+        ) -> u8;
+        pub fn hz_write_binary(
+            sec: i64,
+            ticks: u64,
+            front: bool,
+            p: u8,
+            epoch: i64,
+            out: *mut u8,
+            room: usize,
+            written: *mut usize,
+        ) -> u8;
     }
 }
 
@@ -97,4 +117,36 @@ pub fn utc_of_second(sec: i64, day: &mut i64, second_of_day: &mut u64, offset: &
 pub fn second_of_utc(day: i64, second_of_day: u64, sec: &mut i64) -> u8 {
     // SAFETY: numbers may hold anything, and an exclusive reference is a cell.
     unsafe { c::hz_second_of_utc(day, second_of_day, sec) }
+}
+
+/// The moment of a binary code, and how many of the bytes are the code's.
+pub fn read_binary(
+    bytes: &[u8],
+    front: bool,
+    p: u8,
+    epoch: i64,
+    sec: &mut i64,
+    ticks: &mut u64,
+    used: &mut usize,
+) -> u8 {
+    let (start, len) = (bytes.as_ptr(), bytes.len());
+    // SAFETY: numbers may hold anything, the bytes are as many as said, and three exclusive references are
+    // three cells apart from each other and from the bytes.
+    unsafe { c::hz_read_binary(start, len, front, p, epoch, sec, ticks, used) }
+}
+
+/// The binary code of a moment, and how many bytes it has.
+pub fn write_binary(
+    sec: i64,
+    ticks: u64,
+    front: bool,
+    p: u8,
+    epoch: i64,
+    out: &mut [u8],
+    written: &mut usize,
+) -> u8 {
+    let (start, room) = (out.as_mut_ptr(), out.len());
+    // SAFETY: numbers may hold anything, the bytes are as many as said, and an exclusive reference is a cell
+    // apart from them.
+    unsafe { c::hz_write_binary(sec, ticks, front, p, epoch, start, room, written) }
 }

@@ -1,10 +1,13 @@
 -- What the C interface's numbers say, and what its cells are given.
 use Prim.Native.Nat.{ℕ}
+use mathlib.Core.List.{List}
+use lib.ListN.{length}
 use lib.IntN.{ℤ}
 use Rattle.scale.specs.Time.{Time}
 use Rattle.calendar.specs.declared.Date.{Date}
 use Rattle.calendar.specs.declared.Ordinal.{Ordinal}
 use Rattle.leap.specs.declared.Utc.{Utc}
+use Rattle.codes.specs.Reading.{Scanned}
 
 abbrev pub itself : ℤ → ℤ
 itself z = z
@@ -41,3 +44,15 @@ utcSecond u = u .second
 
 abbrev pub utcOffset : Utc → ℤ
 utcOffset u = u .offset
+
+abbrev pub scannedSec : Scanned → ℤ
+scannedSec x = x .moment .sec
+
+abbrev pub scannedTicks : Scanned → ℕ
+scannedTicks x = x .moment .ticks
+
+abbrev pub scannedUsed : Scanned → ℕ
+scannedUsed x = x .used
+
+abbrev pub lengthOf : List ℕ → ℕ
+lengthOf l = length l

@@ -1,4 +1,5 @@
 // The C interface: each call answers 0 or the number of a refusal, and writes behind its pointers only when it answers 0.
+mod binaries;
 mod calendars;
 mod leaps;
 mod scales;

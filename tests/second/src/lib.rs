@@ -3,7 +3,12 @@
 
 #![forbid(unsafe_code)]
 
+pub mod binary;
 pub mod calendar;
+mod ccs;
+mod cds;
+mod cuc;
 pub mod leap;
+mod octets;
 pub mod rng;
 pub mod scale;

@@ -11,16 +11,21 @@ const OUT_OF_RANGE: u8 = 7;
 
 /// The span a - b.
 pub fn difference(a_sec: i64, a_ticks: u64, b_sec: i64, b_ticks: u64) -> Result<(i64, u64), u8> {
-    let a = valid_total(RECORD_BITS, a_sec, a_ticks)?;
-    let b = valid_total(RECORD_BITS, b_sec, b_ticks)?;
+    let a = record(a_sec, a_ticks)?;
+    let b = record(b_sec, b_ticks)?;
     valid_parts(SPAN_BITS, a - b)
 }
 
 /// The record that lies a span after another.
 pub fn shift(sec: i64, ticks: u64, by_sec: i64, by_ticks: u64) -> Result<(i64, u64), u8> {
-    let from = valid_total(RECORD_BITS, sec, ticks)?;
+    let from = record(sec, ticks)?;
     let by = valid_total(SPAN_BITS, by_sec, by_ticks)?;
     valid_parts(RECORD_BITS, from + by)
+}
+
+/// All ticks of a valid record.
+pub fn record(sec: i64, ticks: u64) -> Result<i128, u8> {
+    valid_total(RECORD_BITS, sec, ticks)
 }
 
 /// All ticks of a record or span, valid or not.
@@ -51,6 +56,7 @@ fn valid_parts(bits: u32, total: i128) -> Result<(i64, u64), u8> {
     }
 }
 
-fn fits(bits: u32, sec: i128) -> bool {
-    sec >> bits == 0 || sec >> bits == -1
+/// From -2^bits to 2^bits - 1.
+pub fn fits(bits: u32, number: i128) -> bool {
+    number >> bits == 0 || number >> bits == -1
 }

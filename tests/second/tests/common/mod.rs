@@ -2,6 +2,8 @@
 //! Each comparison uses its part of this.
 #![allow(dead_code)]
 
+pub mod codes;
+
 use honigzange::{Record, Span};
 use second::rng::{i64_edges, u64_edges, Rng};
 

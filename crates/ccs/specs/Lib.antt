@@ -1,0 +1,2 @@
+pub mod Ccs
+pub mod Inner

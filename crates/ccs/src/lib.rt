@@ -1,0 +1,245 @@
+// CCS, the calendar segmented time code: its T-field, read and written. A crate above reads the P octet.
+use base::Refusal;
+use calendar::DateAnswer;
+use calendar::IndexAnswer;
+use calendar::OrdinalAnswer;
+use leap::ReadingAnswer;
+use leap::SecondAnswer;
+use octets::Counted;
+use octets::Written;
+use scale::Record;
+use scale::RecordAnswer;
+ghost use mathlib.Core.Path.{_≡_};
+ghost use mathlib.Core.List.{_++_};
+ghost use Prim.Native.Nat.{_+_, _/_, _^_, _≤_, _<_};
+ghost use lib.ListN.{length};
+ghost use Rattle.base.specs.Outcome.{andThen, given};
+ghost use Rattle.scale.specs.Time.{perSecond};
+ghost use Rattle.scale.specs.Answers.{recorded, saysRecord};
+ghost use Rattle.calendar.specs.Answers.{saysIndex};
+ghost use Rattle.octets.specs.Places.{bcd};
+ghost use Rattle.octets.specs.Writes.{roomed, Wrote};
+ghost use Rattle.leap.specs.Builtin.{builtin};
+ghost use Rattle.ccs.specs.Ccs.{width, pairs, clockOk, dayAt, clockAt, timeOf, field, minuteOf, dateText, clockText, bytesOf};
+ghost use Rattle.ccs.specs.Inner.{saysClock};
+
+// How a T-field is laid out: by the day of the year or by month and day, and its extra segments, 0 to 6.
+pub struct Layout {
+    pub ordinal: bool,
+    pub segments: usize,
+}
+
+// A second of a day; 86,400 is 23:59:60.
+enum ClockAnswer {
+    Done(u64),
+    Refused(Refusal),
+}
+
+// How many octets a T-field has; 0 for a layout that there is not.
+pub fn size(l: Layout) -> usize
+    ensures { λ r. ⌜ r ≡ width l ⌝ }
+{
+    let segments = l.segments;
+    if segments <= 6 { 7 + segments } else { 0 }
+}
+
+// Reads the T-field that starts at `at`.
+pub fn read(s: &[u8], at: usize, l: Layout) -> RecordAnswer
+    ensures { λ r. ⌜ saysRecord r ≡ field (now (s .entry)) at l ⌝ }
+{
+    let segments = l.segments;
+    if 6 < segments {
+        return RecordAnswer::Refused(Refusal::Unsupported);
+    }
+    let len = s.len();
+    if len < at {
+        return RecordAnswer::Refused(Refusal::Short);
+    }
+    if len - at < 7 + segments {
+        return RecordAnswer::Refused(Refusal::Short);
+    }
+    let answer = day_at(s, at, l.ordinal);
+    match answer {
+        IndexAnswer::Refused(why) => RecordAnswer::Refused(why),
+        IndexAnswer::Done(day) => in_day(s, at + 4, segments, day),
+    }
+}
+
+// The moment of a day: the clock at `at`, and the fraction behind it.
+fn in_day(s: &[u8], at: usize, segments: usize, day: u64) -> RecordAnswer
+    requires { ⌜ (at + (3 + segments) ≤ length (now s)) × (segments ≤ 6) ⌝ }
+    ensures { λ r. ⌜ saysRecord r ≡ andThen (clockAt (now (s .entry)) at) (λ x. andThen (pairs (now (s .entry)) (at + 3) segments) (λ f. timeOf builtin segments day x f)) ⌝ }
+{
+    let answer = clock_at(s, at);
+    match answer {
+        ClockAnswer::Refused(why) => RecordAnswer::Refused(why),
+        ClockAnswer::Done(second) => in_second(s, at + 3, segments, day, second),
+    }
+}
+
+// The moment of a second of a day: the fraction at `at`.
+fn in_second(s: &[u8], at: usize, segments: usize, day: u64, second: u64) -> RecordAnswer
+    requires { ⌜ segments ≤ 6 ⌝ }
+    ensures { λ r. ⌜ saysRecord r ≡ andThen (pairs (now (s .entry)) at segments) (λ f. timeOf builtin segments day second f) ⌝ }
+{
+    let number = octets::bcd(s, at, segments);
+    match number {
+        Counted::Bad => RecordAnswer::Refused(Refusal::Field),
+        Counted::Out => RecordAnswer::Refused(Refusal::Short),
+        Counted::Done(part) => moment(segments, day, second, part),
+    }
+}
+
+fn moment(segments: usize, day: u64, second: u64, part: u64) -> RecordAnswer
+    requires { ⌜ (segments ≤ 6) × (part < 100 ^ segments) ⌝ }
+    ensures { λ r. ⌜ saysRecord r ≡ timeOf builtin segments day second part ⌝ }
+{
+    let answer = leap::second_of(day, second);
+    match answer {
+        SecondAnswer::Refused(why) => RecordAnswer::Refused(why),
+        SecondAnswer::Done(sec) => {
+            let ticks = part * unit(segments);
+            RecordAnswer::Done(Record {
+                sec: sec,
+                ticks: ticks,
+            })
+        }
+    }
+}
+
+// The ticks of one unit of the last of so many segments.
+fn unit(segments: usize) -> u64
+    requires { ⌜ segments ≤ 6 ⌝ }
+    ensures { λ r. ⌜ r ≡ perSecond / 100 ^ segments ⌝ }
+{
+    Record::TICKS / octets::power10(segments * 2)
+}
+
+// The index of the day that the four octets at `at` name.
+fn day_at(s: &[u8], at: usize, ordinal: bool) -> IndexAnswer
+    requires { ⌜ at + 4 ≤ length (now s) ⌝ }
+    ensures { λ r. ⌜ saysIndex r ≡ dayAt ordinal (now (s .entry)) at ⌝ }
+{
+    let number = octets::bcd(s, at, 4);
+    match number {
+        Counted::Bad => IndexAnswer::Refused(Refusal::Field),
+        Counted::Out => IndexAnswer::Refused(Refusal::Short),
+        Counted::Done(n) => {
+            let year = n / 10000;
+            if ordinal {
+                return calendar::index_of_ordinal(year, n % 10000);
+            }
+            calendar::index_of_date(year, n / 100 % 100, n % 100)
+        }
+    }
+}
+
+// The second of the day that the three octets at `at` name.
+fn clock_at(s: &[u8], at: usize) -> ClockAnswer
+    requires { ⌜ at + 3 ≤ length (now s) ⌝ }
+    ensures { λ r. ⌜ saysClock r ≡ clockAt (now (s .entry)) at ⌝ }
+{
+    let number = octets::bcd(s, at, 3);
+    match number {
+        Counted::Bad => ClockAnswer::Refused(Refusal::Field),
+        Counted::Out => ClockAnswer::Refused(Refusal::Short),
+        Counted::Done(n) => {
+            let hour = n / 10000;
+            let minute = n / 100 % 100;
+            let second = n % 100;
+            if good_clock(hour, minute, second) {
+                return ClockAnswer::Done(hour * 3600 + minute * 60 + second);
+            }
+            ClockAnswer::Refused(Refusal::Field)
+        }
+    }
+}
+
+fn good_clock(hour: u64, minute: u64, second: u64) -> bool
+    ensures { λ r. ⌜ r ≡ clockOk hour minute second ⌝ }
+{
+    let last = (second == 60) & (hour == 23) & (minute == 59);
+    (hour <= 23) & (minute <= 59) & ((second <= 59) | last)
+}
+
+// Writes a record as a T-field from `at` on, or a refusal leaves all.
+pub fn write(r: Record, l: Layout, out: &mut [u8], at: usize) -> Written
+    ensures { λ a. ⌜ Wrote (andThen (bytesOf l (recorded r)) (roomed (now (out .entry)) at)) at (now (out .entry)) (now (out .exit)) a ⌝ }
+{
+    if !r.valid() {
+        return Written::Refused(Refusal::Range);
+    }
+    let segments = l.segments;
+    if 6 < segments {
+        return Written::Refused(Refusal::Unsupported);
+    }
+    let ticks = r.ticks;
+    let answer = leap::reading_of(r.sec);
+    match answer {
+        ReadingAnswer::Refused(why) => Written::Refused(why),
+        ReadingAnswer::Done(u) => {
+            let date = date_digits(l.ordinal, u.day);
+            match date {
+                IndexAnswer::Refused(why) => Written::Refused(why),
+                IndexAnswer::Done(n) => {
+                    let clock = clock_digits(u.second);
+                    store(out, at, segments, n, clock, ticks / unit(segments))
+                }
+            }
+        }
+    }
+}
+
+// The eight digits of a day's year and date.
+fn date_digits(ordinal: bool, day: u64) -> IndexAnswer
+    ensures { λ r. ⌜ given (bcd 4) (saysIndex r) ≡ dateText ordinal day ⌝ }
+{
+    if ordinal {
+        let answer = calendar::ordinal_at(day);
+        match answer {
+            OrdinalAnswer::Refused(why) => IndexAnswer::Refused(why),
+            OrdinalAnswer::Done(o) => IndexAnswer::Done(o.year * 10000 + o.day),
+        }
+    } else {
+        let answer = calendar::date_at(day);
+        match answer {
+            DateAnswer::Refused(why) => IndexAnswer::Refused(why),
+            DateAnswer::Done(t) => IndexAnswer::Done(t.year * 10000 + t.month * 100 + t.day),
+        }
+    }
+}
+
+// The minute of the day that a second of it belongs to.
+fn minute_of(second: u64) -> u64
+    ensures { λ r. ⌜ r ≡ minuteOf second ⌝ }
+{
+    if second < 86400 { second / 60 } else { 1439 }
+}
+
+// The six digits of a second of a day.
+fn clock_digits(second: u64) -> u64
+    requires { ⌜ second ≤ 86400 ⌝ }
+    ensures { λ r. ⌜ bcd 3 r ≡ clockText second ⌝ }
+{
+    let minute = minute_of(second);
+    minute / 60 * 10000 + minute % 60 * 100 + (second - minute * 60)
+}
+
+// Stores a T-field's digits where there is room.
+fn store(out: &mut [u8], at: usize, segments: usize, date: u64, clock: u64, part: u64) -> Written
+    requires { ⌜ segments ≤ 6 ⌝ }
+    ensures { λ a. ⌜ Wrote (roomed (now (out .entry)) at (bcd 4 date ++ (bcd 3 clock ++ bcd segments part))) at (now (out .entry)) (now (out .exit)) a ⌝ }
+{
+    let len = out.len();
+    let size = 7 + segments;
+    if len < at {
+        return Written::Refused(Refusal::Room);
+    }
+    if len - at < size {
+        return Written::Refused(Refusal::Room);
+    }
+    octets::put_bcd(out, at, 4, date);
+    octets::put_bcd(out, at + 4, 3, clock);
+    octets::put_bcd(out, at + 7, segments, part);
+    Written::Done(at + size)
+}

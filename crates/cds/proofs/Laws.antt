@@ -1,0 +1,140 @@
+-- The laws of a layout and of the ticks of a T-field's parts.
+use mathlib.Core.Path.{_≡_, refl, _∙_}
+use mathlib.Core.Bool.{Bool, true, false, cond, _&&_, _||_, false≢true}
+use Prim.Native.Nat.{ℕ, _+_, _*_, _-_, _/_, _^_, _<_, _≤_}
+use native.Mathlib.Nat.{mul-lt-mul-of-pos-right, pow-le-pow-right}
+use native.Mathlib.Omega.{arith}
+use mathlib.Core.List.{List}
+use borrow.Author.Tests.{eqb-true, le-leb, lt-leb, lt-ltb, le-ltb}
+use lib.Dec.{leb, eqb, lit<, lit≤}
+use lib.IntN.{ℤ, pos, negℤ, _+ℤ_}
+use lib.ListN.{length}
+use Rattle.base.specs.Parts.{within, at}
+use Rattle.base.specs.Outcome.{refused, given}
+use Rattle.base.proofs.Bools.{and-true, cond-yes, cond-no}
+use Rattle.base.proofs.Ladders.{need-yes, need-no}
+use Rattle.base.proofs.Signed.{same, sum, within-low, within-high, neg-plus, neg-minus, apart}
+use Rattle.octets.specs.Places.{octetValue, octetGood}
+use Rattle.octets.specs.Counts.{countAt}
+use Rattle.octets.specs.declared.Counted.the-variants.{Done}
+use Rattle.octets.proofs.Places.{octet-rule}
+use Rattle.octets.proofs.Counts.{Read, told, read-lt}
+use Rattle.leap.specs.Table.{Table}
+use Rattle.leap.specs.Utc.{secondOfUtc}
+use Rattle.cds.specs.Cds.{isLayout, width, parts, perMillisecond, unit, fraction, timed, fieldBy}
+use Rattle.cds.specs.Inner.{Good}
+use Rattle.cds.specs.declared.Layout.{Layout}
+
+-- ---- a millisecond is a whole number of parts, each a whole number of ticks
+pub grain : (w : ℕ) → parts w * unit w ≡ perMillisecond
+grain w = go (eqb w 0) (eqb w 2)
+  where
+    go : (a b : Bool) → cond a 1 (cond b 1000 1000000000) * (perMillisecond / cond a 1 (cond b 1000 1000000000)) ≡ perMillisecond
+    go true b = refl
+    go false true = refl
+    go false false = refl
+
+pub unit-pos : (w : ℕ) → 0 < unit w
+unit-pos w = go (eqb w 0) (eqb w 2)
+  where
+    go : (a b : Bool) → 0 < perMillisecond / cond a 1 (cond b 1000 1000000000)
+    go true b = lit< tt
+    go false true = lit< tt
+    go false false = lit< tt
+
+pub part-lt : (w p : ℕ) → p < parts w → p * unit w < perMillisecond
+part-lt w p h = rw (grain w) at (mul-lt-mul-of-pos-right h (unit-pos w))
+
+pub many-pos : (w : ℕ) → 0 < parts w
+many-pos w = go (eqb w 0) (eqb w 2)
+  where
+    go : (a b : Bool) → 0 < cond a 1 (cond b 1000 1000000000)
+    go true b = lit< tt
+    go false true = lit< tt
+    go false false = lit< tt
+
+-- ---- a layout, of its parts
+day-is : (w : ℕ) → (eqb w 2 || eqb w 3) ≡ true → w ≤ 3
+day-is w e = go (eqb w 2) (eqb w 3) refl refl e
+  where
+    go : (a b : Bool) → eqb w 2 ≡ a → eqb w 3 ≡ b → (a || b) ≡ true → w ≤ 3
+    go true b p q e = omega (arith, eqb-true w 2 p)
+    go false true p q e = omega (arith, eqb-true w 3 q)
+    go false false p q e = absurd (false≢true e)
+
+part-is : (w : ℕ) → (eqb w 0 || eqb w 2 || eqb w 4) ≡ true → (w ≤ 4) × (parts w ≤ 256 ^ w)
+part-is w e = go (eqb w 0) (eqb w 2) (eqb w 4) refl refl refl e
+  where
+    go : (a b c : Bool) → eqb w 0 ≡ a → eqb w 2 ≡ b → eqb w 4 ≡ c → (a || b || c) ≡ true → (w ≤ 4) × (parts w ≤ 256 ^ w)
+    go true b c p q r e = let z : w ≡ 0 = eqb-true w 0 p in rw z (lit≤ tt, lit≤ tt)
+    go false true c p q r e = let z : w ≡ 2 = eqb-true w 2 q in rw z (lit≤ tt, lit≤ tt)
+    go false false true p q r e = let z : w ≡ 4 = eqb-true w 4 r in rw z (lit≤ tt, lit≤ tt)
+    go false false false p q r e = absurd (false≢true e)
+
+pub layout-good : (l : Layout) → isLayout l ≡ true → Good l
+unfolding isLayout
+layout-good l e =
+    let lo = negℤ (pos (2 ^ 24)) in
+    let hi = pos (2 ^ 24 - 1) in
+    let (a, p) = and-true (within lo hi (l .epoch) && (eqb (l .day) 2 || eqb (l .day) 3)) _ e in
+    let (w, d) = and-true (within lo hi (l .epoch)) _ a in
+    let low = within-low lo hi (l .epoch) w in
+    let high = within-high lo hi (l .epoch) w in
+    let q = part-is (l .part) p in
+    record {
+      low = omega (arith, neg-plus (pos (2 ^ 24)), neg-minus (pos (2 ^ 24)), apart (l .epoch));
+      high = omega (arith, apart (l .epoch));
+      day = day-is (l .day) d;
+      part = q .0;
+      fit = q .1;
+    }
+
+pub width-is : (l : Layout) → isLayout l ≡ true → width l ≡ l .day + 4 + l .part
+unfolding width
+width-is l e = cond-yes _ _ e
+
+pub width-none : (l : Layout) → isLayout l ≡ false → width l ≡ 0
+unfolding width
+width-none l e = cond-no _ _ e
+
+-- ---- the day that many days from another
+pub day-after : (B n d : ℕ) (e z : ℤ) → at B n e → at B (n + d) z → e +ℤ pos d ≡ z
+day-after B n d e z p q = same (e +ℤ pos d) z (omega (arith, sum e (pos d)))
+
+-- ---- what octets read to fits them
+pub count-told : (s : List ℕ) (at w n : ℕ) → countAt s at w ≡ Done n → Read 256 octetValue octetGood 8 s at w n w
+count-told s at w n e = told 256 octetValue octetGood 8 s at w (Done n) e
+
+pub count-lt : (s : List ℕ) (at w n : ℕ) → countAt s at w ≡ Done n → n < 256 ^ w
+count-lt s at w n e = read-lt (count-told s at w n e) octet-rule
+
+pub day-lt : (w n : ℕ) → w ≤ 3 → n < 256 ^ w → n < 2 ^ 24
+day-lt w n h k = let z : 256 ^ w ≤ 256 ^ 3 = pow-le-pow-right (lit< tt) h in omega (arith, k, z)
+
+-- ---- the rungs of a T-field's reading
+module _ (t : Table) (l : Layout) (d m p : ℕ) where
+  pub timed-over : 86400999 < m → timed t l d m p ≡ refused 4
+  unfolding timed
+  timed-over h = need-no 4 _ (lt-leb m 86400999 h)
+
+  pub timed-part : m ≤ 86400999 → parts (l .part) ≤ p → timed t l d m p ≡ refused 4
+  unfolding timed
+  timed-part h k = need-yes 4 _ (le-leb m 86400999 h) ∙ need-no 4 _ (le-ltb p (parts (l .part)) k)
+
+  pub timed-is : m ≤ 86400999 → p < parts (l .part) → timed t l d m p ≡ given (λ z. record { sec = z; ticks = fraction (l .part) m p }) (secondOfUtc t (l .epoch +ℤ pos d) (m / 1000))
+  unfolding timed
+  timed-is h k = need-yes 4 _ (le-leb m 86400999 h) ∙ need-yes 4 _ (lt-ltb p (parts (l .part)) k)
+
+module _ (t : Table) (s : List ℕ) (at : ℕ) (l : Layout) where
+  pub field-none : isLayout l ≡ false → fieldBy t s at l ≡ refused 3
+  unfolding fieldBy
+  field-none e = need-no 3 _ e
+
+  module _ (e : isLayout l ≡ true) where
+    pub field-short : length s < at + (l .day + 4 + l .part) → fieldBy t s at l ≡ refused 1
+    unfolding fieldBy
+    field-short h = need-yes 3 _ e ∙ need-no {t = leb (at + width l) (length s)} 1 _ (rw (width-is l e) (lt-leb _ _ h))
+
+    pub field-is : (d m p : ℕ) → at + (l .day + 4 + l .part) ≤ length s → countAt s at (l .day) ≡ Done d → countAt s (at + l .day) 4 ≡ Done m → countAt s (at + l .day + 4) (l .part) ≡ Done p → fieldBy t s at l ≡ timed t l d m p
+    unfolding fieldBy
+    field-is d m p h a b c = need-yes 3 _ e ∙ need-yes {t = leb (at + width l) (length s)} 1 _ (rw (width-is l e) (le-leb _ _ h)) ∙ rw (a, b, c)

@@ -1,0 +1,7 @@
+pub mod Laws
+pub mod Ticks
+pub mod Stores
+pub mod Trips
+pub mod Order
+pub mod Promises
+pub mod Known

@@ -1,0 +1,2 @@
+pub mod Cds
+pub mod Inner

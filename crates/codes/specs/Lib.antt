@@ -1,0 +1,4 @@
+pub mod PField
+pub mod Reading
+pub mod Writing
+pub mod Answers

@@ -1,0 +1,151 @@
+// The binary codes CUC, CDS and CCS: read from bytes, and written into lent ones.
+pub mod pfield;
+
+use base::Refusal;
+use octets::Written;
+use pfield::Layout;
+use pfield::LayoutAnswer;
+use scale::Record;
+use scale::RecordAnswer;
+ghost use mathlib.Core.Path.{_≡_};
+ghost use mathlib.Core.Bool.{true};
+ghost use Prim.Native.Nat.{_≤_};
+ghost use lib.ListN.{drop};
+ghost use Rattle.base.specs.Outcome.{given, andThen};
+ghost use Rattle.scale.specs.Answers.{recorded, saysRecord};
+ghost use Rattle.octets.specs.Writes.{roomed, Wrote};
+ghost use Rattle.codes.specs.Reading.{scanned, fieldOf, scanIn, scanAt, scanOf, usedOf};
+ghost use Rattle.codes.specs.Writing.{bytesOf, fronted, writeOf};
+ghost use Rattle.codes.specs.Answers.{saysReading};
+
+// Where the P octet is: in front of the bytes, or supplied apart.
+pub enum Preamble {
+    Front,
+    Given(u8),
+}
+
+// A moment and how many bytes its code takes.
+pub enum Reading {
+    Done(Record, usize),
+    Refused(Refusal),
+}
+
+// The answer, and the part of the caller's bytes that follows the code: all of them when refused.
+pub struct Taken<'a> {
+    pub answer: Reading,
+    pub rest: &'a [u8],
+}
+
+// Reads a code from the front of the bytes.
+pub fn read<'a>(s: &'a [u8], p: Preamble, epoch: i64) -> Taken<'a>
+    ensures { λ r. ⌜ (saysReading (r .answer) ≡ scanOf (now (s .entry)) p epoch) × (now (r .rest) ≡ drop (usedOf (scanOf (now (s .entry)) p epoch)) (now (s .entry))) ⌝ }
+{
+    let answer = scan(s, p, epoch);
+    let rest = unread(s, answer);
+    Taken { answer, rest }
+}
+
+// The answer alone.
+pub fn scan(s: &[u8], p: Preamble, epoch: i64) -> Reading
+    ensures { λ r. ⌜ saysReading r ≡ scanOf (now (s .entry)) p epoch ⌝ }
+{
+    match p {
+        Preamble::Given(o) => scan_at(s, 0, o, epoch),
+        Preamble::Front => {
+            if s.len() < 1 {
+                return Reading::Refused(Refusal::Short);
+            }
+            let o = s[0];
+            scan_at(s, 1, o, epoch)
+        }
+    }
+}
+
+// What follows the code that was read, or all when it was refused.
+pub fn unread<'a>(s: &'a [u8], a: Reading) -> &'a [u8]
+    ensures { λ r. ⌜ now r ≡ drop (usedOf (saysReading a)) (now (s .entry)) ⌝ }
+{
+    match a {
+        Reading::Refused(_) => s,
+        Reading::Done(_, n) => {
+            if n <= s.len() {
+                return &s[n..];
+            }
+            let e = s.len();
+            &s[e..]
+        }
+    }
+}
+
+// Writes a moment under a P octet and an epoch, with the octet in front or without it.
+pub fn write_binary(r: Record, p: u8, epoch: i64, front: bool, out: &mut [u8]) -> Written
+    ensures { λ a. ⌜ Wrote (writeOf (recorded r) p epoch front (now (out .entry))) 0 (now (out .entry)) (now (out .exit)) a ⌝ }
+{
+    if !r.valid() {
+        return Written::Refused(Refusal::Range);
+    }
+    match pfield::lay(p, epoch) {
+        LayoutAnswer::Refused(why) => Written::Refused(why),
+        LayoutAnswer::Done(l) => {
+            if front {
+                return put_fronted(r, p, l, out);
+            }
+            put(r, l, out, 0)
+        }
+    }
+}
+
+// The T-field that starts at `at`, under the P octet o.
+fn scan_at(s: &[u8], at: usize, o: u8, epoch: i64) -> Reading
+    requires { ⌜ at ≤ 1 ⌝ }
+    ensures { λ r. ⌜ saysReading r ≡ scanAt (now (s .entry)) at o epoch ⌝ }
+{
+    match pfield::lay(o, epoch) {
+        LayoutAnswer::Refused(why) => Reading::Refused(why),
+        LayoutAnswer::Done(l) => field(s, at, l),
+    }
+}
+
+fn field(s: &[u8], at: usize, l: Layout) -> Reading
+    requires { ⌜ at ≤ 1 ⌝ }
+    ensures { λ r. ⌜ saysReading r ≡ scanIn (now (s .entry)) at l ⌝ }
+{
+    match l {
+        Layout::Cuc(c) => ended(cuc::read(s, at, c), at + cuc::size(c)),
+        Layout::Cds(d) => ended(cds::read(s, at, d), at + cds::size(d)),
+        Layout::Ccs(c) => ended(ccs::read(s, at, c), at + ccs::size(c)),
+    }
+}
+
+fn ended(a: RecordAnswer, end: usize) -> Reading
+    ensures { λ r. ⌜ saysReading r ≡ given (scanned end) (saysRecord a) ⌝ }
+{
+    match a {
+        RecordAnswer::Refused(why) => Reading::Refused(why),
+        RecordAnswer::Done(r) => Reading::Done(r, end),
+    }
+}
+
+// The T-field of a moment, stored from `at` on.
+fn put(r: Record, l: Layout, out: &mut [u8], at: usize) -> Written
+    ensures { λ a. ⌜ Wrote (andThen (bytesOf l (recorded r)) (roomed (now (out .entry)) at)) at (now (out .entry)) (now (out .exit)) a ⌝ }
+{
+    match l {
+        Layout::Cuc(c) => cuc::write(r, c, out, at),
+        Layout::Cds(d) => cds::write(r, d, out, at),
+        Layout::Ccs(c) => ccs::write(r, c, out, at),
+    }
+}
+
+// The same behind its P octet, which is stored once the T-field has found room.
+fn put_fronted(r: Record, p: u8, l: Layout, out: &mut [u8]) -> Written
+    ensures { λ a. ⌜ Wrote (andThen (bytesOf l (recorded r)) (fronted true p (now (out .entry)))) 0 (now (out .entry)) (now (out .exit)) a ⌝ }
+{
+    match put(r, l, out, 1) {
+        Written::Refused(why) => Written::Refused(why),
+        Written::Done(n) => {
+            out[0] = p;
+            Written::Done(n)
+        }
+    }
+}

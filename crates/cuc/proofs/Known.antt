@@ -1,0 +1,44 @@
+-- Document 01's known times as T-fields, and the ends of what a layout is and holds, by computation.
+use mathlib.Core.Path.{_≡_, refl}
+use mathlib.Core.List.{List, [], _∷_, map}
+use Prim.Native.Nat.{ℕ, _^_}
+use lib.IntN.{ℤ, pos, negsuc}
+use Rattle.base.specs.Outcome.{done, refused}
+use Rattle.base.specs.Parts.{within}
+use Rattle.scale.specs.Time.{Time, good}
+use Rattle.octets.specs.Counts.{countOf}
+use Rattle.cuc.specs.Cuc.{isLayout, width, unit, timeOf, field, holds, bytesOf}
+use Rattle.cuc.specs.Cuc as P
+use Rattle.cuc.specs.declared.Layout.{Layout}
+
+abbrev time : ℤ → ℕ → Time
+time s n = record { sec = s; ticks = n }
+
+abbrev laid : ℤ → ℕ → ℕ → Layout
+laid e c f = record { epoch = e; coarse = c; fine = f }
+
+-- 2016-12-31T23:59:60: "second 1,861,920,036. CUC 1C 6E FA A5 24", of which the first octet is the P octet; a byte before it and one after
+abbrev second : List ℕ
+second = 110 ∷ 250 ∷ 165 ∷ 36 ∷ []
+
+leap-second : (field second 0 (laid (pos 0) 4 0) ≡ done (time (pos 1861920036) 0)) × (field (28 ∷ 110 ∷ 250 ∷ 165 ∷ 36 ∷ 9 ∷ []) 1 (laid (pos 0) 4 0) ≡ done (time (pos 1861920036) 0)) × (bytesOf (laid (pos 0) 4 0) (time (pos 1861920036) 0) ≡ done second)
+unfolding isLayout within width unit timeOf field holds bytesOf good countOf P.countOf
+leap-second = (refl, refl, refl)
+
+-- "The same moment as CUC with one fine octet: fraction 31/256", taken downward
+fraction : (bytesOf (laid (pos 0) 4 1) (time (pos 948216067) 505675776000000) ≡ done (56 ∷ 132 ∷ 161 ∷ 3 ∷ 31 ∷ [])) × (field (56 ∷ 132 ∷ 161 ∷ 3 ∷ 31 ∷ []) 0 (laid (pos 0) 4 1) ≡ done (time (pos 948216067) 496000000000000))
+unfolding isLayout within width unit timeOf field holds bytesOf good countOf P.countOf
+fraction = (refl, refl)
+
+-- an epoch of its own, before 1958: the ends of one coarse octet, and past each
+abbrev near : Layout
+near = laid (negsuc 9) 1 0
+
+ends : map (bytesOf near) (time (negsuc 9) 0 ∷ time (pos 245) 4095999999999999 ∷ time (negsuc 10) 4095999999999999 ∷ time (pos 246) 0 ∷ time (pos 0) 4096000000000000 ∷ []) ≡ done (0 ∷ []) ∷ done (255 ∷ []) ∷ refused 7 ∷ refused 7 ∷ refused 7 ∷ []
+unfolding isLayout within width unit holds bytesOf good P.countOf
+ends = refl
+
+-- bytes that run out; no such layout, though the bytes run out too; and a record is tested before the layout
+refusals : (field second 1 (laid (pos 0) 4 0) ≡ refused 1) × (map (field [] 0) (laid (pos 0) 0 0 ∷ laid (pos 0) 5 0 ∷ laid (pos 0) 1 4 ∷ laid (pos (2 ^ 40)) 1 0 ∷ laid (negsuc (2 ^ 40)) 1 0 ∷ laid (negsuc 1099511627775) 1 0 ∷ []) ≡ refused 3 ∷ refused 3 ∷ refused 3 ∷ refused 3 ∷ refused 3 ∷ refused 1 ∷ []) × (bytesOf (laid (pos 0) 0 0) (time (pos 0) 0) ≡ refused 3) × (bytesOf (laid (pos 0) 0 0) (time (pos 0) 4096000000000000) ≡ refused 7)
+unfolding isLayout within width unit timeOf field bytesOf good countOf
+refusals = (refl, refl, refl, refl)

@@ -1,0 +1,9 @@
+pub mod Widths
+pub mod Layouts
+pub mod Times
+pub mod Sources
+pub mod Fields
+pub mod Stores
+pub mod Promises
+pub mod Once
+pub mod Known

@@ -1,0 +1,2 @@
+pub mod Cuc
+pub mod Inner
