@@ -23,6 +23,9 @@
  * result is never NULL and is aligned for its type. No two result cells or lent buffers of a call overlap.
  * A bool is true or false. Every bit pattern is allowed in all other arguments.
  *
+ * TEXT. Text is bytes and a length, read and written. It is NOT terminated by a NUL: a written text ends after
+ * as many bytes as the call says, and a NUL that is read is a character like any other, and refused.
+ *
  * No function allocates, keeps a pointer, or keeps state: all may be called from any threads at once, as
  * long as no two calls share memory that one of them writes.
  */
@@ -46,6 +49,10 @@ extern "C" {
 
 /* Bytes that hold any binary code, its P octet in front: at most 8 for CUC, 12 for CDS and 14 for CCS. */
 #define HZ_BINARY_ROOM 14
+
+/* Bytes that hold any ASCII code, and bytes that hold what hz_write_wall writes. There is no NUL among them. */
+#define HZ_ASCII_ROOM 33
+#define HZ_WALL_ROOM 24
 
 /* Refusal numbers. */
 #define HZ_SHORT 1          /* binary bytes run out, or ASCII is empty */
@@ -263,6 +270,93 @@ uint8_t hz_read_binary(const uint8_t *bytes, size_t len, bool front, uint8_t p, 
  */
 uint8_t hz_write_binary(int64_t sec, uint64_t ticks, bool front, uint8_t p, int64_t epoch,
                         uint8_t *out, size_t room, size_t *written);
+
+/*
+ * ASCII CODES. A code is the whole text and shows UTC, with Z or without:
+ *
+ *   date        YYYY-MM-DD, which is form A, or YYYY-DDD with the day of the year, which is form B
+ *   T           capital
+ *   time        hh:mm:ss, second 60 at 23:59 alone
+ *   fraction    a period and 1 to 12 digits, or nothing
+ *   Z           capital, or nothing
+ *
+ * Nothing stands before, between or after these, not even a blank, a line feed or a NUL. The longest code has
+ * HZ_ASCII_ROOM bytes. 1988-018T17:20:43.123456Z and 1988-01-18T17:20:43.123456 are TAI second 948216067 and
+ * 505675776000000 ticks; 2016-12-31T23:59:60 is TAI second 1861920036.
+ *
+ *     static const char text[] = "1988-018T17:20:43.123456Z";
+ *     uint8_t face[HZ_WALL_ROOM], refusal;
+ *     size_t written;
+ *     int64_t sec;
+ *     uint64_t ticks;
+ *     refusal = hz_read_ascii((const uint8_t *)text, sizeof text - 1, &sec, &ticks);
+ *     if (refusal == 0)
+ *         refusal = hz_write_wall(sec, ticks, face, sizeof face, &written);
+ *     if (refusal == 0)
+ *         printf("%.*s\n", (int)written, (const char *)face);
+ *
+ * This prints 1988-01-18T17:20:43.123Z. The text's own NUL is not given to the call: sizeof text - 1.
+ */
+
+/*
+ * The moment of an ASCII code. hz_write_ascii of it, in the form, with the digits and with the Z of the text,
+ * gives the same bytes.
+ *
+ * text, len: the code and nothing else. NULL only when len is 0.
+ * sec, ticks: the record is written here.
+ *
+ * 0                  done.
+ *
+ * Refused with the first of these that holds:
+ * HZ_SHORT           len is 0.
+ * HZ_FIELD           the text has another shape, as with 13 digits of the fraction or with a byte too many;
+ *                    there is no such date in the years 0001 to 9999; the hour is over 23, the minute over
+ *                    59, or the second over 59 and not 60 at 23:59.
+ * HZ_UNCOVERED       the UTC day is outside the table of leap seconds.
+ * HZ_NO_SUCH_SECOND  second 60 on a UTC day that does not end with a leap second.
+ */
+uint8_t hz_read_ascii(const uint8_t *text, size_t len, int64_t *sec, uint64_t *ticks);
+
+/*
+ * The ASCII code of a moment. What the digits can't hold of the fraction is dropped, never rounded up: the
+ * code shows the latest time it can that is not after the moment, and hz_read_ascii of it gives that time.
+ *
+ * sec, ticks: the record.
+ * day_of_year: false, the date is written as YYYY-MM-DD; true, as YYYY-DDD.
+ * digits: digits of the fraction, 0 to 12. With 0 there is no period either.
+ * z: whether Z is written at the end.
+ * out, room: the code is written to the first bytes, without a NUL; later ones stay as they were. NULL only
+ *            when room is 0. A room of HZ_ASCII_ROOM is always enough.
+ * written: the number of bytes of the code is written here.
+ *
+ * 0               done.
+ *
+ * Refused with the first of these that holds:
+ * HZ_RANGE        the record is invalid.
+ * HZ_UNSUPPORTED  digits is over 12.
+ * HZ_UNCOVERED    the moment is outside the table of leap seconds.
+ * HZ_ROOM         room is less than the bytes of the code. Nothing of it is written.
+ */
+uint8_t hz_write_ascii(int64_t sec, uint64_t ticks, bool day_of_year, uint8_t digits, bool z,
+                       uint8_t *out, size_t room, size_t *written);
+
+/*
+ * The text of a moment for a wall clock: its ASCII code in the default setting, which is form A with 3 digits
+ * and Z, as 2016-12-31T23:59:60.000Z.
+ *
+ * sec, ticks: the record.
+ * out, room: the text is written to the first HZ_WALL_ROOM bytes, without a NUL; later ones stay as they
+ *            were. NULL only when room is 0.
+ * written: the number of bytes of the text, HZ_WALL_ROOM, is written here.
+ *
+ * 0             done.
+ *
+ * Refused with the first of these that holds:
+ * HZ_RANGE      the record is invalid.
+ * HZ_UNCOVERED  the moment is outside the table of leap seconds.
+ * HZ_ROOM       room is less than HZ_WALL_ROOM. Nothing is written.
+ */
+uint8_t hz_write_wall(int64_t sec, uint64_t ticks, uint8_t *out, size_t room, size_t *written);
 
 #ifdef __cplusplus
 }

@@ -182,6 +182,108 @@ static void writes(void)
     }
 }
 
+/* Document 01's moments and refusals as texts, without the NUL. Where there is a refusal, sec and ticks are
+ * what they were before. */
+static const struct {
+    const char *text;
+    uint8_t answer;
+    int64_t sec;
+    uint64_t ticks;
+} texts[] = {
+    {"1988-018T17:20:43.123456Z", 0, 948216067, UINT64_C(505675776000000)},
+    {"1988-01-18T17:20:43.123456", 0, 948216067, UINT64_C(505675776000000)},
+    {"2016-12-31T23:59:59", 0, 1861920035, 0},
+    {"2016-12-31T23:59:60", 0, 1861920036, 0},
+    {"2016-366T23:59:60.999999999999Z", 0, 1861920036, HZ_TICKS - 4096},
+    {"2017-01-01T00:00:00Z", 0, 1861920037, 0},
+    {"", HZ_SHORT, 17, 18},
+    {"2016-12-31T23:59:60.0000000000000", HZ_FIELD, 17, 18},
+    {"2016-12-31T23:59:60z", HZ_FIELD, 17, 18},
+    {"2016-12-31T23:59:60Z ", HZ_FIELD, 17, 18},
+    {"2016-12-31T12:00:60", HZ_FIELD, 17, 18},
+    {"2026-01-01T00:00:00", HZ_UNCOVERED, 17, 18},
+    {"1971-12-31T23:59:59", HZ_UNCOVERED, 17, 18},
+    {"2015-12-31T23:59:60", HZ_NO_SUCH_SECOND, 17, 18},
+};
+
+static void reads_of_texts(void)
+{
+    int64_t sec = 17;
+    uint64_t ticks = 18;
+    size_t i;
+
+    expect("no text at NULL is refused", hz_read_ascii(NULL, 0, &sec, &ticks) == HZ_SHORT);
+    for (i = 0; i < sizeof texts / sizeof *texts; i++) {
+        const uint8_t *text = (const uint8_t *)texts[i].text;
+
+        sec = 17, ticks = 18;
+        expect(texts[i].text, hz_read_ascii(text, strlen(texts[i].text), &sec, &ticks) == texts[i].answer &&
+                                  sec == texts[i].sec && ticks == texts[i].ticks);
+    }
+    sec = 17, ticks = 18;
+    expect("a text's own NUL is refused",
+           hz_read_ascii((const uint8_t *)"2017-01-01T00:00:00Z", 21, &sec, &ticks) == HZ_FIELD && sec == 17 &&
+               ticks == 18);
+}
+
+/* One text, in a room that is one byte more than it takes, and in one that is one byte less. */
+static void expect_text(int64_t sec, uint64_t ticks, bool day_of_year, uint8_t digits, bool z, const char *text)
+{
+    uint8_t out[HZ_ASCII_ROOM + 1];
+    size_t length = strlen(text), written = 17;
+
+    memset(out, 0xEE, sizeof out);
+    expect(text, hz_write_ascii(sec, ticks, day_of_year, digits, z, out, length - 1, &written) == HZ_ROOM);
+    expect("a refusal writes nothing",
+           out[0] == 0xEE && memcmp(out, out + 1, sizeof out - 1) == 0 && written == 17);
+    expect(text, hz_write_ascii(sec, ticks, day_of_year, digits, z, out, length + 1, &written) == 0 &&
+                     written == length && memcmp(out, text, length) == 0);
+    expect("a later byte stays", out[length] == 0xEE);
+}
+
+static void writes_of_texts(void)
+{
+    const uint64_t fraction = HZ_TICKS / 256 * 31;
+    uint8_t out[HZ_ASCII_ROOM];
+    size_t written = 17;
+
+    expect_text(948216067, fraction, true, 6, true, "1988-018T17:20:43.121093Z");
+    expect_text(948216067, fraction, false, 0, false, "1988-01-18T17:20:43");
+    expect_text(1861920036, HZ_TICKS - 1, false, 12, true, "2016-12-31T23:59:60.999999999999Z");
+    expect_text(1861920036, HZ_TICKS - 1, true, 1, false, "2016-366T23:59:60.9");
+    written = 17;
+    expect("an invalid record is refused first",
+           hz_write_ascii(441763209, HZ_TICKS, false, 13, true, NULL, 0, &written) == HZ_RANGE);
+    expect("then 13 digits",
+           hz_write_ascii(441763209, 0, false, 13, true, NULL, 0, &written) == HZ_UNSUPPORTED);
+    expect("then the second before the cover",
+           hz_write_ascii(441763209, 0, false, 12, true, NULL, 0, &written) == HZ_UNCOVERED);
+    expect("then no room", hz_write_ascii(441763210, 0, false, 12, true, NULL, 0, &written) == HZ_ROOM);
+    expect("a refusal writes nothing", written == 17);
+    expect("a room of HZ_ASCII_ROOM is just enough",
+           hz_write_ascii(441763210, 0, false, 12, true, out, sizeof out, &written) == 0 &&
+               written == sizeof out);
+}
+
+static void walls(void)
+{
+    uint8_t face[HZ_WALL_ROOM + 1], none[HZ_WALL_ROOM + 1];
+    size_t written = 17;
+
+    memset(face, 0xEE, sizeof face);
+    memset(none, 0xEE, sizeof none);
+    expect("an invalid record is refused first",
+           hz_write_wall(2145916837, HZ_TICKS, NULL, 0, &written) == HZ_RANGE);
+    expect("then the second after the cover", hz_write_wall(2145916837, 0, NULL, 0, &written) == HZ_UNCOVERED);
+    expect("then a room too short",
+           hz_write_wall(1861920036, 0, face, HZ_WALL_ROOM - 1, &written) == HZ_ROOM);
+    expect("a refusal writes nothing", memcmp(face, none, sizeof face) == 0 && written == 17);
+    expect("the wall in a leap second", hz_write_wall(1861920036, 0, face, sizeof face, &written) == 0 &&
+                                            written == HZ_WALL_ROOM &&
+                                            memcmp(face, "2016-12-31T23:59:60.000Z", HZ_WALL_ROOM) == 0);
+    expect("a later byte stays", face[HZ_WALL_ROOM] == 0xEE);
+}
+
 int main(void)
 {
     differences();
@@ -192,6 +294,9 @@ int main(void)
     seconds();
     reads();
     writes();
+    reads_of_texts();
+    writes_of_texts();
+    walls();
     if (!wrong) {
         printf("smoke: all as known\n");
     }

@@ -33,18 +33,32 @@
 //! assert_eq!(code[..written], [0x1C, 0x6E, 0xFA, 0xA5, 0x24]);
 //! # Ok::<(), honigzange::Refusal>(())
 //! ```
+//!
+//! ```
+//! use honigzange::{read_ascii, write_wall, WALL_ROOM};
+//!
+//! // An operator's text, with the day of the year, goes to the wall.
+//! let record = read_ascii(b"1988-018T17:20:43.123456Z")?;
+//! let mut face = [0; WALL_ROOM];
+//! let written = write_wall(record, &mut face)?;
+//! assert_eq!(&face[..written], b"1988-01-18T17:20:43.123Z");
+//! # Ok::<(), honigzange::Refusal>(())
+//! ```
 
 #![no_std]
 #![deny(unsafe_code)]
 #![deny(missing_docs)]
 
+mod ascii;
 mod binary;
 mod calendar;
 mod leap;
 pub mod raw;
 mod refusal;
 mod scale;
+mod setting;
 
+pub use ascii::{read_ascii, write_ascii, write_wall, AsciiSetting, ASCII_ROOM, WALL_ROOM};
 pub use binary::{read_binary, write_binary, BinarySetting, Preamble, BINARY_ROOM};
 pub use calendar::{
     date_of_day, day_of_date, day_of_ordinal, ordinal_of_day, Date, Ordinal, FIRST_DAY, LAST_DAY,
@@ -52,3 +66,4 @@ pub use calendar::{
 pub use leap::{second_of_utc, utc_of_second, Utc};
 pub use refusal::Refusal;
 pub use scale::{difference, shift, Record, Span};
+pub use setting::{write, Setting};

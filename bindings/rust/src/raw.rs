@@ -54,6 +54,24 @@ mod c {
             room: usize,
             written: *mut usize,
         ) -> u8;
+        pub fn hz_read_ascii(text: *const u8, len: usize, sec: *mut i64, ticks: *mut u64) -> u8;
+        pub fn hz_write_ascii(
+            sec: i64,
+            ticks: u64,
+            day_of_year: bool,
+            digits: u8,
+            z: bool,
+            out: *mut u8,
+            room: usize,
+            written: *mut usize,
+        ) -> u8;
+        pub fn hz_write_wall(
+            sec: i64,
+            ticks: u64,
+            out: *mut u8,
+            room: usize,
+            written: *mut usize,
+        ) -> u8;
     }
 }
 
@@ -149,4 +167,35 @@ pub fn write_binary(
     // SAFETY: numbers may hold anything, the bytes are as many as said, and an exclusive reference is a cell
     // apart from them.
     unsafe { c::hz_write_binary(sec, ticks, front, p, epoch, start, room, written) }
+}
+
+/// The moment of an ASCII code, which is the whole text.
+pub fn read_ascii(text: &[u8], sec: &mut i64, ticks: &mut u64) -> u8 {
+    // SAFETY: the bytes are as many as said, and two exclusive references are two cells apart from each other
+    // and from the bytes.
+    unsafe { c::hz_read_ascii(text.as_ptr(), text.len(), sec, ticks) }
+}
+
+/// The ASCII code of a moment, and how many bytes it has.
+pub fn write_ascii(
+    sec: i64,
+    ticks: u64,
+    day_of_year: bool,
+    digits: u8,
+    z: bool,
+    out: &mut [u8],
+    written: &mut usize,
+) -> u8 {
+    let (start, room) = (out.as_mut_ptr(), out.len());
+    // SAFETY: numbers may hold anything, the bytes are as many as said, and an exclusive reference is a cell
+    // apart from them.
+    unsafe { c::hz_write_ascii(sec, ticks, day_of_year, digits, z, start, room, written) }
+}
+
+/// The text of a moment for a wall clock, and how many bytes it has.
+pub fn write_wall(sec: i64, ticks: u64, out: &mut [u8], written: &mut usize) -> u8 {
+    let (start, room) = (out.as_mut_ptr(), out.len());
+    // SAFETY: numbers may hold anything, the bytes are as many as said, and an exclusive reference is a cell
+    // apart from them.
+    unsafe { c::hz_write_wall(sec, ticks, start, room, written) }
 }

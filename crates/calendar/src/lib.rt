@@ -246,10 +246,12 @@ fn month_start(k: usize, m: usize) -> u64
     requires { ⌜ (k < 2) × (m < 12) ⌝ }
     ensures { λ r. ⌜ r ≡ upTo (row k) m ⌝ }
 {
+    // the table in a local: a constant is laid out anew at each use
+    let rows = MONTHS;
     let mut sum = 0;
     let mut i = 0;
     while i < m {
-        sum += length_at(k, i);
+        sum += rows[k][i];
         i += 1;
     }
     sum
@@ -284,10 +286,11 @@ fn date_in(o: Ordinal) -> Date
     ensures { λ r. ⌜ r ≡ dateIn o ⌝ }
 {
     let k = kind_of(o.year);
+    let rows = MONTHS;
     let mut left = o.day;
     let mut m = 0;
     'months: loop {
-        let length = length_at(k, m);
+        let length = rows[k][m];
         if left <= length {
             break 'months;
         }

@@ -1,4 +1,5 @@
 pub mod PField
 pub mod Reading
 pub mod Writing
+pub mod Setting
 pub mod Answers

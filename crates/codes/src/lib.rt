@@ -1,5 +1,6 @@
-// The binary codes CUC, CDS and CCS: read from bytes, and written into lent ones.
+// All codes: the binary ones CUC, CDS and CCS read from bytes and written into lent ones; settings in the module setting.
 pub mod pfield;
+pub mod setting;
 
 use base::Refusal;
 use octets::Written;

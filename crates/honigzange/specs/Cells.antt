@@ -1,5 +1,6 @@
 -- What the C interface's numbers say, and what its cells are given.
 use Prim.Native.Nat.{ℕ}
+use mathlib.Core.Bool.{Bool}
 use mathlib.Core.List.{List}
 use lib.ListN.{length}
 use lib.IntN.{ℤ}
@@ -8,6 +9,7 @@ use Rattle.calendar.specs.declared.Date.{Date}
 use Rattle.calendar.specs.declared.Ordinal.{Ordinal}
 use Rattle.leap.specs.declared.Utc.{Utc}
 use Rattle.codes.specs.Reading.{Scanned}
+use Rattle.ascii.specs.declared.Layout.{Layout}
 
 abbrev pub itself : ℤ → ℤ
 itself z = z
@@ -56,3 +58,6 @@ scannedUsed x = x .used
 
 abbrev pub lengthOf : List ℕ → ℕ
 lengthOf l = length l
+
+abbrev pub asciiLayout : Bool → ℕ → Bool → Layout
+asciiLayout b d z = record { ordinal = b; digits = d; zone = z }

@@ -3,3 +3,4 @@ mod binaries;
 mod calendars;
 mod leaps;
 mod scales;
+mod texts;

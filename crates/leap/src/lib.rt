@@ -5,12 +5,10 @@ use base::Refusal;
 use base::Seat;
 ghost use mathlib.Core.Path.{_≡_};
 ghost use Prim.Native.Nat.{_+_, _-_, _/_, _≤_, _<_, min};
-ghost use lib.ListN.{getD};
-ghost use mathlib.Core.List.{[]};
 ghost use Rattle.leap.specs.Table.{start, dayLength, dayHolding, reading, secondAt, readingAt};
 ghost use Rattle.leap.specs.Utc.{readingOf, secondOf, utcOfSecond, secondOfUtc};
 ghost use Rattle.leap.specs.Answers.{saysRaised, saysReading, saysSecond, saysUtc};
-ghost use Rattle.leap.specs.Builtin.{builtin, published};
+ghost use Rattle.leap.specs.Builtin.{builtin};
 ghost use Rattle.leap.specs.Inner.{rowAt, endAt, Small, OnDay, InSecond};
 
 // A day and TAI minus UTC from it on.
@@ -170,25 +168,15 @@ pub fn reading_at(s: u64) -> ReadingAnswer
     ReadingAnswer::Done(locate(s))
 }
 
-// Row i, as it was published.
-fn published(i: usize, column: usize) -> u64
-    requires { ⌜ (i < 28) × (column < 2) ⌝ }
-    ensures { λ r. ⌜ r ≡ getD (getD published i []) column 0 ⌝ }
-{
-    LEAPS[i][column]
-}
-
 // Row i.
 fn row_at(i: usize) -> Row
     requires { ⌜ i < 28 ⌝ }
     ensures { λ r. ⌜ (r ≡ rowAt builtin i) × Small r ⌝ }
 {
-    let day = published(i, 0);
-    let offset = published(i, 1);
-    Row {
-        day: day + 714779,
-        offset: offset + 64,
-    }
+    let rows = LEAPS;
+    let day = rows[i][0] + 714779;
+    let offset = rows[i][1] + 64;
+    Row { day, offset }
 }
 
 // What ends row i: the next row, or the first day past the cover.
@@ -210,10 +198,11 @@ fn row_on_day(day: u64) -> usize
     requires { ⌜ (719892 ≤ day) × (day < 739616) ⌝ }
     ensures { λ i. ⌜ OnDay builtin day i ⌝ }
 {
+    // the table in a local: a constant is laid out anew at each use
+    let rows = LEAPS;
     let mut i = 27;
     while 0 < i {
-        let row = row_at(i);
-        if row.day <= day {
+        if rows[i][0] + 714779 <= day {
             return i;
         }
         i -= 1;
@@ -226,10 +215,10 @@ fn row_in_second(s: u64) -> usize
     requires { ⌜ (62198668874 ≤ s) × (s < 63902822501) ⌝ }
     ensures { λ i. ⌜ InSecond builtin s i ⌝ }
 {
+    let rows = LEAPS;
     let mut i = 27;
     while 0 < i {
-        let row = row_at(i);
-        if row.day * 86400 + row.offset <= s {
+        if (rows[i][0] + 714779) * 86400 + (rows[i][1] + 64) <= s {
             return i;
         }
         i -= 1;

@@ -51,17 +51,21 @@ static DAYS: LazyLock<Vec<Day>> = LazyLock::new(covered_days);
 struct Day {
     number: i64,
     begins: i64,
-    length: u64,
+    length: i64,
     offset: i64,
 }
 
 /// The day, second of day and TAI minus UTC of a TAI second.
 pub fn utc_of_second(sec: i64) -> Result<(i64, u64, i64), u8> {
-    let begun = DAYS.partition_point(|day| day.begins <= sec);
-    let day = DAYS[..begun].last().ok_or(UNCOVERED)?;
-    let second_of_day = sec.abs_diff(day.begins);
-    if second_of_day < day.length {
-        Ok((day.number, second_of_day, day.offset))
+    let days = &*DAYS;
+    // To count days of 86,400 seconds alone finds the day, or the one after it.
+    let count = sec.saturating_sub(days[0].begins) / 86_400;
+    let found = count.clamp(0, days.len() as i64 - 1) as usize;
+    let late = usize::from(sec < days[found].begins);
+    let day = &days[found.saturating_sub(late)];
+    let second_of_day = sec.saturating_sub(day.begins);
+    if (0..day.length).contains(&second_of_day) {
+        Ok((day.number, second_of_day as u64, day.offset))
     } else {
         Err(UNCOVERED)
     }
@@ -72,9 +76,11 @@ pub fn second_of_utc(day: i64, second_of_day: u64) -> Result<i64, u8> {
     if second_of_day > 86_400 {
         return Err(BAD_SECOND);
     }
-    let place = DAYS.binary_search_by_key(&day, |listed| listed.number);
-    let day = &DAYS[place.map_err(|_| UNCOVERED)?];
-    if second_of_day < day.length {
+    let days = &*DAYS;
+    let place = usize::try_from(i128::from(day) - i128::from(days[0].number));
+    let day = place.ok().and_then(|place| days.get(place));
+    let day = day.ok_or(UNCOVERED)?;
+    if (second_of_day as i64) < day.length {
         Ok(day.begins + second_of_day as i64)
     } else {
         Err(NO_SUCH_SECOND)
@@ -87,7 +93,7 @@ fn covered_days() -> Vec<Day> {
     let mut days = Vec::new();
     for number in number(FIRST_DATE)..=number(LAST_DATE) {
         let inserted = long_days.iter().filter(|&&long| long < number).count();
-        let length = 86_400 + u64::from(long_days.contains(&number));
+        let length = 86_400 + i64::from(long_days.contains(&number));
         let offset = FIRST_OFFSET + inserted as i64;
         days.push(Day {
             number,
@@ -95,7 +101,7 @@ fn covered_days() -> Vec<Day> {
             length,
             offset,
         });
-        begins += length as i64;
+        begins += length;
     }
     days
 }

@@ -3,6 +3,7 @@
 
 #![forbid(unsafe_code)]
 
+pub mod ascii;
 pub mod binary;
 pub mod calendar;
 mod ccs;
@@ -10,5 +11,6 @@ mod cds;
 mod cuc;
 pub mod leap;
 mod octets;
+pub mod program;
 pub mod rng;
 pub mod scale;

@@ -11,10 +11,10 @@ use Rattle.calendar.proofs.date_in.Statement.{statement}
 use Rattle.calendar.proofs.date_in.Tie as tie
 
 abbrev Inv-months : tie.InvT-months
-Inv-months o k left₀ m₀ left m = (m < 12) × (1 ≤ left) × (upTo (row k) m + left ≡ o .day)
+Inv-months o k rows left₀ m₀ left m = (m < 12) × (1 ≤ left) × (upTo (row k) m + left ≡ o .day)
 
 abbrev μ-months : tie.MeasureT-months
-μ-months o k left₀ m₀ left m = 12 - m
+μ-months o k rows left₀ m₀ left m = 12 - m
 
 kind-of-requires : tie.Need-kind-of-requires Inv-months μ-months
 kind-of-requires c κs = search needs
@@ -22,10 +22,20 @@ kind-of-requires c κs = search needs
 months-holds : tie.Need-months-holds Inv-months μ-months
 months-holds c = omega (arith, good-ordinal _ _ (c .before .pre))
 
-length-at-requires : tie.Need-length-at-requires Inv-months μ-months
-length-at-requires c κs = omega (arith, kind-lt (c .before .before .args .o .year))
+mul-length : tie.Need-mul-length Inv-months μ-months
+mul-length c = omega (arith, kind-lt (c .before .before .args .o .year))
+
+mul-length-2 : tie.Need-mul-length-2 Inv-months μ-months
+mul-length-2 c = omega arith
+
+index-1-length : tie.Need-index-1-length Inv-months μ-months
+index-1-length c = omega (arith, kind-lt (c .before .before .args .o .year))
+
+index-2-length : tie.Need-index-2-length Inv-months μ-months
+index-2-length c = omega arith
 
 sub-left : tie.Need-sub-left Inv-months μ-months
+unfolding row
 sub-left c = omega arith
 
 add-m : tie.Need-add-m Inv-months μ-months
@@ -35,6 +45,7 @@ months-less : tie.Need-months-less Inv-months μ-months
 months-less c = omega arith
 
 months-again : tie.Need-months-again Inv-months μ-months
+unfolding row
 months-again c =
     let o = c .before .before .before .before .args .o in
     let k = c .before .before .before .kind-of .result in
@@ -47,6 +58,7 @@ add-month : tie.Need-add-month Inv-months μ-months
 add-month c = omega arith
 
 returns : tie.Need-returns Inv-months μ-months
+unfolding row
 returns c =
     let w = c .before .before in
     date-left (w .before .before .args .o) (w .before .kind-of .result) (w .months .m) (w .months .left) (w .before .kind-of .ensures) (omega arith) (omega arith) (omega arith) (w .months .inv .2)
@@ -59,7 +71,10 @@ date-in-spec =
     μ-months
     kind-of-requires
     months-holds
-    length-at-requires
+    mul-length
+    mul-length-2
+    index-1-length
+    index-2-length
     sub-left
     add-m
     months-less

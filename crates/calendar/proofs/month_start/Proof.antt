@@ -9,18 +9,28 @@ use Rattle.calendar.proofs.month_start.Statement.{statement}
 use Rattle.calendar.proofs.month_start.Tie as tie
 
 abbrev Inv-loop : tie.InvT-loop
-Inv-loop k m sum₀ i₀ sum i = (i ≤ m) × (sum ≡ upTo (row k) i)
+Inv-loop k m rows sum₀ i₀ sum i = (i ≤ m) × (sum ≡ upTo (row k) i)
 
 abbrev μ-loop : tie.MeasureT-loop
-μ-loop k m sum₀ i₀ sum i = m - i
+μ-loop k m rows sum₀ i₀ sum i = m - i
 
 loop-holds : tie.Need-loop-holds Inv-loop μ-loop
 loop-holds c = search needs
 
-length-at-requires : tie.Need-length-at-requires Inv-loop μ-loop
-length-at-requires c κs = omega arith
+mul-sum : tie.Need-mul-sum Inv-loop μ-loop
+mul-sum c = omega arith
+
+mul-sum-2 : tie.Need-mul-sum-2 Inv-loop μ-loop
+mul-sum-2 c = omega arith
+
+index-1-sum : tie.Need-index-1-sum Inv-loop μ-loop
+index-1-sum c = omega arith
+
+index-2-sum : tie.Need-index-2-sum Inv-loop μ-loop
+index-2-sum c = omega arith
 
 add-sum : tie.Need-add-sum Inv-loop μ-loop
+unfolding row
 add-sum c =
     let s = c .before .before .before .pre .0 in
     let i = c .before .before .loop .i in
@@ -33,6 +43,7 @@ loop-less : tie.Need-loop-less Inv-loop μ-loop
 loop-less c = omega arith
 
 loop-again : tie.Need-loop-again Inv-loop μ-loop
+unfolding row
 loop-again c = omega (arith, row-next _ (c .before .before .before .pre .0) (c .before .before .loop .i) (omega arith))
 
 returns : tie.Need-returns Inv-loop μ-loop
@@ -47,7 +58,10 @@ month-start-spec =
     Inv-loop
     μ-loop
     loop-holds
-    length-at-requires
+    mul-sum
+    mul-sum-2
+    index-1-sum
+    index-2-sum
     add-sum
     add-i
     loop-less

@@ -1,35 +1,59 @@
 -- `leap::row_at` meets its contract.
-use mathlib.Core.Path.{_≡_, sym, _∙_}
+use mathlib.Core.Path.{_≡_, sym}
 use mathlib.Core.List.{[]}
+use Prim.Native.Nat.{ℕ, _<_}
 use native.Mathlib.Omega.{arith}
 use borrow.Author.Needs.{needs}
 use lib.ListN.{getD}
-use Rattle.leap.specs.declared.Row.{Row}
-use Rattle.leap.specs.Builtin.{rowOf, builtin, published}
-use Rattle.leap.specs.Inner.{rowAt, Small}
+use Rattle.leap.specs.Builtin.{rowOf, published}
+use Rattle.leap.specs.Inner.{Small}
 use Rattle.leap.proofs.Builtin.{row-is, row-small}
 use Rattle.leap.proofs.row_at.Statement.{statement}
 use Rattle.leap.proofs.row_at.Tie as tie
 
-published-requires : tie.Need-published-requires
-published-requires c κs = search needs
+mul-day : tie.Need-mul-day
+mul-day c = search needs
 
-published-requires-2 : tie.Need-published-requires-2
-published-requires-2 c κs = search needs
+index-1-day : tie.Need-index-1-day
+index-1-day c = search needs
+
+index-2-day : tie.Need-index-2-day
+index-2-day c = search needs
 
 -- the row that was read is small
-small : (c : tie.After-published2) → Small (rowOf (getD published (c .before .before .args .i) []))
-small c = rw (row-is (c .before .before .args .i) (c .before .before .pre)) at (row-small (c .before .before .args .i) (c .before .before .pre))
+small : (i : ℕ) → i < 28 → Small (rowOf (getD published i []))
+small i h = rw (row-is i h) at (row-small i h)
 
-add-t4 : tie.Need-add-t4
-add-t4 c = omega (arith, small c .day-high, c .before .published .ensures)
+add-day : tie.Need-add-day
+add-day c = omega (arith, small (c .before .args .i) (c .before .pre) .day-high)
 
-add-t5 : tie.Need-add-t5
-add-t5 c = omega (arith, small c .offset-high, c .published2 .ensures)
+mul-offset : tie.Need-mul-offset
+mul-offset c = search needs
+
+index-1-offset : tie.Need-index-1-offset
+index-1-offset c = search needs
+
+index-2-offset : tie.Need-index-2-offset
+index-2-offset c = search needs
+
+add-offset : tie.Need-add-offset
+add-offset c = omega (arith, small (c .before .before .args .i) (c .before .before .pre) .offset-high)
 
 returns : tie.Need-returns
 returns c =
-    rw (c .before .published .ensures, c .published2 .ensures) (sym (row-is (c .before .before .args .i) (c .before .before .pre)), small c)
+    let s = c .before .before in
+    (sym (row-is (s .args .i) (s .pre)), small (s .args .i) (s .pre))
 
 pub row-at-spec : {M : Type 1} → statement M
-row-at-spec = tie.close (tie.spec published-requires published-requires-2 add-t4 add-t5 returns)
+row-at-spec =
+    tie.close
+    (tie.spec
+    mul-day
+    index-1-day
+    index-2-day
+    add-day
+    mul-offset
+    index-1-offset
+    index-2-offset
+    add-offset
+    returns)

@@ -1,39 +1,66 @@
 -- `leap::row_in_second` meets its contract. The loop's invariant: row i has not ended before the second.
-use mathlib.Core.Path.{_≡_, sym, ap}
-use Prim.Native.Nat.{_-_, _<_}
+use mathlib.Core.Path.{_≡_, sym, ap, _∙_}
+use mathlib.Core.List.{[]}
+use Prim.Native.Nat.{ℕ, _+_, _-_, _<_, _≤_}
 use native.Mathlib.Omega.{arith}
 use borrow.Author.Needs.{needs}
+use lib.ListN.{getD}
 use Rattle.leap.specs.declared.Row.{Row}
-use Rattle.leap.specs.Builtin.{builtin}
-use Rattle.leap.specs.Inner.{rowAt, endAt, begins}
+use Rattle.leap.specs.Builtin.{builtin, published}
+use Rattle.leap.specs.Inner.{rowAt, endAt, begins, Small}
 use Rattle.leap.proofs.Rows.{end-back}
-use Rattle.leap.proofs.Builtin.{later-rows}
+use Rattle.leap.proofs.Builtin.{later-rows, row-is, row-small}
 use Rattle.leap.proofs.row_in_second.Statement.{statement}
 use Rattle.leap.proofs.row_in_second.Tie as tie
 
 abbrev Inv-loop : tie.InvT-loop
-Inv-loop s i₀ i = (i < 28) × (s < begins (endAt builtin i))
+Inv-loop s rows i₀ i = (i < 28) × (s < begins (endAt builtin i))
 
 abbrev μ-loop : tie.MeasureT-loop
-μ-loop s i₀ i = i
+μ-loop s rows i₀ i = i
+
+-- the row that is looked at
+read : (i : ℕ) → i < 28 → (getD (getD published i []) 0 0 + 714779 ≡ rowAt builtin i .day) × (getD (getD published i []) 1 0 + 64 ≡ rowAt builtin i .offset) × Small (rowAt builtin i)
+read i h = (sym (ap (λ (x : Row). x .day) (row-is i h)), sym (ap (λ (x : Row). x .offset) (row-is i h)), row-small i h)
 
 loop-holds : tie.Need-loop-holds Inv-loop μ-loop
 unfolding builtin
 loop-holds c = (omega arith, omega arith)
 
-row-at-requires : tie.Need-row-at-requires Inv-loop μ-loop
-row-at-requires c κs = omega arith
-
 mul-if1 : tie.Need-mul-if1 Inv-loop μ-loop
-mul-if1 c = omega (arith, c .before .row-at .ensures .1)
+mul-if1 c = omega arith
+
+index-1-if1 : tie.Need-index-1-if1 Inv-loop μ-loop
+index-1-if1 c = omega arith
+
+index-2-if1 : tie.Need-index-2-if1 Inv-loop μ-loop
+index-2-if1 c = search needs
 
 add-if1 : tie.Need-add-if1 Inv-loop μ-loop
-add-if1 c = omega (arith, c .before .before .row-at .ensures .1)
+add-if1 c = let l = c .before .before .loop in omega (arith, read (l .i) (l .inv .0))
+
+mul-if1-2 : tie.Need-mul-if1-2 Inv-loop μ-loop
+mul-if1-2 c = let l = c .before .before .loop in omega (arith, read (l .i) (l .inv .0))
+
+mul-if1-3 : tie.Need-mul-if1-3 Inv-loop μ-loop
+mul-if1-3 c = omega arith
+
+index-1-if1-2 : tie.Need-index-1-if1-2 Inv-loop μ-loop
+index-1-if1-2 c = omega arith
+
+index-2-if1-2 : tie.Need-index-2-if1-2 Inv-loop μ-loop
+index-2-if1-2 c = search needs
+
+add-if1-2 : tie.Need-add-if1-2 Inv-loop μ-loop
+add-if1-2 c = let l = c .before .before .before .loop in omega (arith, read (l .i) (l .inv .0))
+
+add-if1-3 : tie.Need-add-if1-3 Inv-loop μ-loop
+add-if1-3 c = let l = c .before .before .before .loop in omega (arith, read (l .i) (l .inv .0))
 
 returns : tie.Need-returns Inv-loop μ-loop
 returns c =
-    let r = c .before .before .before in
-    record { row = omega arith; low = omega (arith, ap begins (r .row-at .ensures .0)); high = r .before .before .loop .inv .1 }
+    let l = c .before .before .before .before .loop in
+    record { row = omega arith; low = omega (arith, read (l .i) (l .inv .0)); high = l .inv .1 }
 
 sub-i : tie.Need-sub-i Inv-loop μ-loop
 sub-i c = omega arith
@@ -43,9 +70,9 @@ loop-less c = omega arith
 
 loop-again : tie.Need-loop-again Inv-loop μ-loop
 loop-again c =
-    let r = c .before .before .before in
-    let e : endAt builtin (r .before .before .loop .i - 1) ≡ r .row-at .result = end-back builtin (r .before .before .loop .i) (r .row-at .result) (omega arith) (omega (arith, later-rows)) (r .row-at .ensures .0) in
-    (omega arith, omega (arith, ap begins e))
+    let l = c .before .before .before .before .loop in
+    let e : endAt builtin (l .i - 1) ≡ rowAt builtin (l .i) = end-back builtin (l .i) (rowAt builtin (l .i)) (omega arith) (omega (arith, later-rows)) (λ k. rowAt builtin (l .i)) in
+    (omega arith, omega (arith, ap begins e, read (l .i) (l .inv .0)))
 
 returns-2 : tie.Need-returns-2 Inv-loop μ-loop
 unfolding builtin
@@ -60,9 +87,16 @@ row-in-second-spec =
     Inv-loop
     μ-loop
     loop-holds
-    row-at-requires
     mul-if1
+    index-1-if1
+    index-2-if1
     add-if1
+    mul-if1-2
+    mul-if1-3
+    index-1-if1-2
+    index-2-if1-2
+    add-if1-2
+    add-if1-3
     returns
     sub-i
     loop-less

@@ -1,33 +1,48 @@
 -- `leap::row_on_day` meets its contract. The loop's invariant: row i has not ended before the day.
-use mathlib.Core.Path.{_≡_, sym, ap}
-use Prim.Native.Nat.{_-_, _<_}
+use mathlib.Core.Path.{_≡_, sym, ap, _∙_}
+use mathlib.Core.List.{[]}
+use Prim.Native.Nat.{ℕ, _+_, _-_, _<_, _≤_}
 use native.Mathlib.Omega.{arith}
 use borrow.Author.Needs.{needs}
+use lib.ListN.{getD}
 use Rattle.leap.specs.declared.Row.{Row}
-use Rattle.leap.specs.Builtin.{builtin}
-use Rattle.leap.specs.Inner.{rowAt, endAt}
+use Rattle.leap.specs.Builtin.{builtin, published}
+use Rattle.leap.specs.Inner.{rowAt, endAt, Small}
 use Rattle.leap.proofs.Rows.{end-back}
-use Rattle.leap.proofs.Builtin.{later-rows}
+use Rattle.leap.proofs.Builtin.{later-rows, row-is, row-small}
 use Rattle.leap.proofs.row_on_day.Statement.{statement}
 use Rattle.leap.proofs.row_on_day.Tie as tie
 
 abbrev Inv-loop : tie.InvT-loop
-Inv-loop day i₀ i = (i < 28) × (day < endAt builtin i .day)
+Inv-loop day rows i₀ i = (i < 28) × (day < endAt builtin i .day)
 
 abbrev μ-loop : tie.MeasureT-loop
-μ-loop day i₀ i = i
+μ-loop day rows i₀ i = i
+
+-- the row that is looked at
+read : (i : ℕ) → i < 28 → (getD (getD published i []) 0 0 + 714779 ≡ rowAt builtin i .day) × Small (rowAt builtin i)
+read i h = (sym (ap (λ (x : Row). x .day) (row-is i h)), row-small i h)
 
 loop-holds : tie.Need-loop-holds Inv-loop μ-loop
 unfolding builtin
 loop-holds c = (omega arith, omega arith)
 
-row-at-requires : tie.Need-row-at-requires Inv-loop μ-loop
-row-at-requires c κs = omega arith
+mul-if1 : tie.Need-mul-if1 Inv-loop μ-loop
+mul-if1 c = omega arith
+
+index-1-if1 : tie.Need-index-1-if1 Inv-loop μ-loop
+index-1-if1 c = omega arith
+
+index-2-if1 : tie.Need-index-2-if1 Inv-loop μ-loop
+index-2-if1 c = search needs
+
+add-if1 : tie.Need-add-if1 Inv-loop μ-loop
+add-if1 c = let i = c .before .before .loop .i in omega (arith, read i (c .before .before .loop .inv .0))
 
 returns : tie.Need-returns Inv-loop μ-loop
 returns c =
-    let r = c .before .before in
-    record { row = omega arith; low = omega (arith, ap (λ (x : Row). x .day) (r .row-at .ensures .0)); high = r .before .before .loop .inv .1 }
+    let l = c .before .before .before .loop in
+    record { row = omega arith; low = omega (arith, read (l .i) (l .inv .0)); high = l .inv .1 }
 
 sub-i : tie.Need-sub-i Inv-loop μ-loop
 sub-i c = omega arith
@@ -37,15 +52,14 @@ loop-less c = omega arith
 
 loop-again : tie.Need-loop-again Inv-loop μ-loop
 loop-again c =
-    let r = c .before .before in
-    let e : endAt builtin (r .before .before .loop .i - 1) ≡ r .row-at .result = end-back builtin (r .before .before .loop .i) (r .row-at .result) (omega arith) (omega (arith, later-rows)) (r .row-at .ensures .0) in
-    (omega arith, omega (arith, ap (λ (x : Row). x .day) e))
+    let l = c .before .before .before .loop in
+    let e : endAt builtin (l .i - 1) ≡ rowAt builtin (l .i) = end-back builtin (l .i) (rowAt builtin (l .i)) (omega arith) (omega (arith, later-rows)) (λ k. rowAt builtin (l .i)) in
+    (omega arith, omega (arith, ap (λ (x : Row). x .day) e, read (l .i) (l .inv .0)))
 
 returns-2 : tie.Need-returns-2 Inv-loop μ-loop
 unfolding builtin
 returns-2 c =
-    let i = c .before .loop .i in
-    let e : i ≡ 0 = omega arith in
+    let e : c .before .loop .i ≡ 0 = omega arith in
     record { row = omega arith; low = rw e (omega arith); high = c .before .loop .inv .1 }
 
 pub row-on-day-spec : {M : Type 1} → statement M
@@ -55,7 +69,10 @@ row-on-day-spec =
     Inv-loop
     μ-loop
     loop-holds
-    row-at-requires
+    mul-if1
+    index-1-if1
+    index-2-if1
+    add-if1
     returns
     sub-i
     loop-less

@@ -3,6 +3,7 @@
 #![allow(dead_code)]
 
 pub mod codes;
+pub mod texts;
 
 use honigzange::{Record, Span};
 use second::rng::{i64_edges, u64_edges, Rng};

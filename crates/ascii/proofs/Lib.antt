@@ -1,0 +1,11 @@
+pub mod Shapes
+pub mod Sizes
+pub mod Reading
+pub mod Ladder
+pub mod Texts
+pub mod Back
+pub mod Forth
+pub mod Trips
+pub mod Promises
+pub mod Once
+pub mod Known

@@ -1,0 +1,145 @@
+-- The texts that are written: how long they are, and how they are put in one after another.
+use mathlib.Core.Path.{_≡_, refl, sym, ap, _∙_}
+use mathlib.Core.Bool.{Bool, true, false}
+use mathlib.Core.List.{List, _++_, append-assoc}
+use Prim.Native.Nat.{ℕ, zero, suc, _+_, _-_, _*_, _/_, _%_, _<_, _≤_}
+use native.Mathlib.Omega.{arith}
+use lib.ListN.{length, set, length-set, length-append}
+use borrow.Author.Tests.{lt-ltb, le-ltb, ne-eqb, le-leb, lt-leb}
+use Rattle.base.specs.Outcome.{Outcome, done, refused, andThen}
+use Rattle.base.proofs.Bools.{cond-yes, cond-no}
+use Rattle.base.proofs.Ladders.{need-yes, need-no}
+use Rattle.scale.specs.Time.{Time, isRecord}
+use Rattle.octets.specs.Places.{digitOf, digits}
+use Rattle.octets.specs.Stores.{pasted, Stored}
+use Rattle.octets.proofs.Places.{length-places}
+use Rattle.octets.proofs.Pastes.{paste-none, paste-cons, stored, then}
+use Rattle.calendar.specs.Gregorian.{ordinalOn, dateIn}
+use Rattle.calendar.specs.declared.Ordinal.{Ordinal}
+use Rattle.calendar.specs.declared.Date.{Date}
+use Rattle.leap.specs.Table.{Table}
+use Rattle.leap.specs.Utc.{readingOf}
+use Rattle.leap.specs.declared.Reading.{Reading}
+use Rattle.ascii.specs.declared.Layout.{Layout}
+use Rattle.ascii.specs.Ascii.{frontOf, partSize, bit, width, lead, dayText, minuteOf, clockText, fractionText, zoneText, codeText, partOf, bytesBy}
+use Rattle.ascii.proofs.Shapes.{zone-length}
+use Rattle.ascii.proofs.Sizes.{width-of}
+
+-- ---- lengths
+pub digits-length : (w n : ℕ) → length (digits w n) ≡ w
+digits-length w n = length-places 10 digitOf w n
+
+pub day-length : (o : Bool) (n : ℕ) → length (dayText o n) + 9 ≡ frontOf o
+unfolding dayText
+day-length true n = refl
+day-length false n = refl
+
+pub clock-length : (n : ℕ) → length (clockText n) ≡ 9
+unfolding clockText
+clock-length n = refl
+
+pub fraction-length : (d f : ℕ) → length (fractionText d f) ≡ partSize d
+fraction-length zero f = refl
+fraction-length (suc d) f = rw (ne-eqb (suc d) 0 (λ e. omega (arith, e))) (omega (arith, digits-length (suc d) f))
+
+pub code-length : (l : Layout) (n x f : ℕ) → length (codeText l n x f) ≡ frontOf (l .ordinal) + partSize (l .digits) + bit (l .zone)
+unfolding codeText
+code-length l n x f =
+    simp length-append (omega (arith, day-length (l .ordinal) n, clock-length x, fraction-length (l .digits) f, zone-length (l .zone)))
+
+pub code-width : (l : Layout) (n x f : ℕ) → l .digits ≤ 12 → length (codeText l n x f) ≡ width l
+code-width l n x f h = code-length l n x f ∙ sym (width-of l h)
+
+-- ---- a character and digits
+module _ (old : List ℕ) {new : List ℕ} {r : Bool} (at w n : ℕ) where
+  pub put-digits : at + w ≤ length old → Stored (digits w n) at old new r → new ≡ pasted old at (digits w n)
+  put-digits h s = stored (let z : at + length (digits w n) ≤ length old = omega (arith, digits-length w n) in z) s .1
+
+  pub put-mark : (c : ℕ) → at + 1 + w ≤ length old → Stored (digits w n) (at + 1) (set old at c) new r → new ≡ pasted old at (lead c w n)
+  put-mark c h s =
+      stored (let z : at + 1 + length (digits w n) ≤ length (set old at c) = omega (arith, digits-length w n, length-set old at c) in z) s .1
+      ∙ paste-cons old at c (digits w n) (omega arith)
+
+-- ---- dates
+pub put-two : (old a b : List ℕ) (n at : ℕ) (o : Ordinal) → ordinalOn n ≡ o → at + 8 ≤ length old → a ≡ pasted old at (digits 4 (o .year)) → b ≡ pasted a (at + 4) (lead 45 3 (o .day)) → b ≡ pasted old at (dayText true n)
+unfolding dayText
+put-two old a b n at o e h p q =
+    rw e (then old (digits 4 (o .year)) (lead 45 3 (o .day)) at (at + 4) p q (omega (arith, digits-length 4 (o .year))) (omega arith))
+
+pub put-three : (old a b c : List ℕ) (n at : ℕ) (t : Date) → dateIn (ordinalOn n) ≡ t → at + 10 ≤ length old → a ≡ pasted old at (digits 4 (t .year)) → b ≡ pasted a (at + 4) (lead 45 2 (t .month)) → c ≡ pasted b (at + 7) (lead 45 2 (t .day)) → c ≡ pasted old at (dayText false n)
+unfolding dayText
+put-three old a b c n at t e h p q r =
+    let y = digits 4 (t .year) in
+    let m = lead 45 2 (t .month) in
+    let d = lead 45 2 (t .day) in
+    let two = then old y m at (at + 4) p q (omega (arith, digits-length 4 (t .year))) (omega arith) in
+    let three = then old (y ++ m) d at (at + 7) two r (omega (arith, digits-length 4 (t .year), digits-length 2 (t .month), length-append y m)) (omega arith) in
+    rw e (rw (append-assoc y m d) at three)
+
+-- ---- clocks
+pub minute-low : (n : ℕ) → n < 86400 → n / 60 ≡ minuteOf n
+minute-low n h = sym (cond-yes _ _ (lt-ltb n 86400 h))
+
+pub minute-last : (n : ℕ) → 86400 ≤ n → 1439 ≡ minuteOf n
+minute-last n h = sym (cond-no _ _ (le-ltb n 86400 h))
+
+pub put-clock : (old a b c : List ℕ) (at n m : ℕ) → m ≡ minuteOf n → at + 9 ≤ length old → a ≡ pasted old at (lead 84 2 (m / 60)) → b ≡ pasted a (at + 3) (lead 58 2 (m % 60)) → c ≡ pasted b (at + 6) (lead 58 2 (n - m * 60)) → c ≡ pasted old at (clockText n)
+unfolding clockText
+put-clock old a b c at n m e h p q r =
+    let x = lead 84 2 (m / 60) in
+    let y = lead 58 2 (m % 60) in
+    let z = lead 58 2 (n - m * 60) in
+    let two = then old x y at (at + 3) p q (omega (arith, digits-length 2 (m / 60))) (omega arith) in
+    let three = then old (x ++ y) z at (at + 6) two r (omega (arith, digits-length 2 (m / 60), digits-length 2 (m % 60), length-append x y)) (omega arith) in
+    rw (← e) (rw (append-assoc x y z) at three)
+
+-- ---- fractions
+pub no-fraction : (old : List ℕ) (at d f : ℕ) → d ≡ 0 → old ≡ pasted old at (fractionText d f)
+no-fraction old at d f e = rw e (paste-none old at)
+
+pub some-fraction : (d f : ℕ) → (d ≡ 0 → ⊥) → lead 46 d f ≡ fractionText d f
+some-fraction zero f n = absurd (n refl)
+some-fraction (suc d) f n = refl
+
+-- ---- the whole
+pub put-parts : (l : Layout) (n x f : ℕ) (old a b c e : List ℕ) (at t u : ℕ) → l .digits ≤ 12 → at + width l ≤ length old → t + 9 ≡ at + frontOf (l .ordinal) → u ≡ t + 9 + partSize (l .digits)
+    → a ≡ pasted old at (dayText (l .ordinal) n) → b ≡ pasted a t (clockText x) → c ≡ pasted b (t + 9) (fractionText (l .digits) f) → e ≡ pasted c u (zoneText (l .zone)) → e ≡ pasted old at (codeText l n x f)
+unfolding codeText
+put-parts l n x f old a b c e at t u few h i j p q r s =
+    let d = dayText (l .ordinal) n in
+    let k = clockText x in
+    let g = fractionText (l .digits) f in
+    let z = zoneText (l .zone) in
+    let w = width-of l few in
+    let dl = day-length (l .ordinal) n in
+    let kl = clock-length x in
+    let gl = fraction-length (l .digits) f in
+    let two = then old d k at t p q (omega arith) (omega arith) in
+    let three = then old (d ++ k) g at (t + 9) two r (omega (arith, length-append d k)) (omega arith) in
+    let four = then old (d ++ k ++ g) z at u three s (omega (arith, length-append d k, length-append (d ++ k) g)) (omega arith) in
+    simp append-assoc at four
+
+-- ---- what writing answers, one law for each kind of return
+module _ (t : Table) (l : Layout) (r : Time) (k : List ℕ → Outcome (List ℕ)) where
+  pub bytes-invalid : isRecord r ≡ false → andThen (bytesBy t l r) k ≡ refused 7
+  unfolding bytesBy
+  bytes-invalid e = ap (λ (x : Outcome (List ℕ)). andThen x k) (need-no 7 _ e)
+
+  module _ (e : isRecord r ≡ true) where
+    pub bytes-digits : 12 < l .digits → andThen (bytesBy t l r) k ≡ refused 3
+    unfolding bytesBy
+    bytes-digits h = ap (λ (x : Outcome (List ℕ)). andThen x k) (need-yes 7 _ e ∙ need-no 3 _ (lt-leb (l .digits) 12 h))
+
+    module _ (h : l .digits ≤ 12) where
+      abbrev code : Reading → List ℕ
+      code u = codeText l (u .day) (u .second) (partOf (l .digits) (r .ticks))
+
+      pub bytes-by : (x : Outcome Reading) → readingOf t (r .sec) ≡ x → bytesBy t l r ≡ andThen x (λ u. done (code u))
+      unfolding bytesBy
+      bytes-by x f = need-yes 7 _ e ∙ need-yes 3 _ (le-leb (l .digits) 12 h) ∙ ap (λ (y : Outcome Reading). andThen y (λ u. done (code u))) f
+
+      pub bytes-uncovered : (n : ℕ) → readingOf t (r .sec) ≡ refused n → andThen (bytesBy t l r) k ≡ refused n
+      bytes-uncovered n f = ap (λ (x : Outcome (List ℕ)). andThen x k) (bytes-by (refused n) f)
+
+      pub bytes-done : (u : Reading) → readingOf t (r .sec) ≡ done u → andThen (bytesBy t l r) k ≡ k (code u)
+      bytes-done u f = ap (λ (x : Outcome (List ℕ)). andThen x k) (bytes-by (done u) f)

@@ -1,0 +1,72 @@
+-- `ascii::put_date` meets its contract.
+use mathlib.Core.Path.{sym, ap, _∙_}
+use native.Mathlib.Omega.{arith}
+use borrow.Author.Needs.{needs}
+use Rattle.base.proofs.Ladders.{never, done-is}
+use Rattle.calendar.specs.Gregorian.{ordinalOn, dateIn}
+use Rattle.calendar.specs.Answers.{saysDate}
+use Rattle.calendar.proofs.Promises.{date-at-done}
+use Rattle.ascii.proofs.Texts.{put-digits, put-three}
+use Rattle.ascii.proofs.put_date.Statement.{statement}
+use Rattle.ascii.proofs.put_date.Tie as tie
+
+date-at-requires : tie.Need-date-at-requires
+date-at-requires c κs = search needs
+
+enum-told : tie.Need-enum-told
+enum-told c = search needs
+
+enum-known-answer : tie.Need-enum-known-answer
+enum-known-answer c = search needs
+
+put-decimal-requires : tie.Need-put-decimal-requires
+put-decimal-requires c κs = search needs
+
+add-put-lead : tie.Need-add-put-lead
+add-put-lead c = search needs
+
+put-lead-requires : tie.Need-put-lead-requires
+put-lead-requires c κs = search needs
+
+add-put-lead-2 : tie.Need-add-put-lead-2
+add-put-lead-2 c = search needs
+
+put-lead-requires-2 : tie.Need-put-lead-requires-2
+put-lead-requires-2 c κs = search needs
+
+returns : tie.Need-returns
+returns c =
+    let b = c .before .before in
+    let e = sym (ap saysDate (c .enum-told .given .1)) ∙ b .date-at .ensures ∙ date-at-done (b .before .before .args .day) (omega arith) in
+    never _ _ e
+
+same-length : tie.Need-same-length
+same-length c = search needs
+
+returns-2 : tie.Need-returns-2
+returns-2 c =
+    let r = c .before .before in
+    let q = r .before .before .before .before in
+    let p = q .before .before .before .before in
+    let k = p .before .before .before in
+    let b = k .before .before in
+    let a = b .before .before .args in
+    let t = k .answer .given .0 .0 in
+    let e = done-is (dateIn (ordinalOn (a .day))) t (sym (date-at-done (a .day) (omega arith)) ∙ sym (b .date-at .ensures) ∙ ap saysDate (k .answer .given .1)) in
+    put-three (a .out .now) _ _ _ (a .day) (a .at) t e (omega arith) (put-digits (a .out .now) (a .at) 4 (t .year) (omega arith) (p .put-decimal .ensures)) (q .put-lead .ensures) (r .put-lead2 .ensures)
+
+pub put-date-spec : {M : Type 1} → statement M
+put-date-spec =
+    tie.close
+    (tie.spec
+    date-at-requires
+    enum-told
+    enum-known-answer
+    put-decimal-requires
+    add-put-lead
+    put-lead-requires
+    add-put-lead-2
+    put-lead-requires-2
+    returns
+    same-length
+    returns-2)

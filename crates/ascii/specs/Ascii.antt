@@ -1,0 +1,150 @@
+-- ASCII time codes A and B (document 01, "The codes"): what reading answers, and what writing answers. The leap second table is a parameter.
+use mathlib.Core.Path.{_≡_}
+use mathlib.Core.Bool.{Bool, true, false, cond, not, _&&_, _||_}
+use mathlib.Core.List.{List, [], _∷_, _++_}
+use Prim.Native.Nat.{ℕ, zero, suc, _+_, _-_, _*_, _/_, _%_, _^_}
+use lib.Dec.{ltb, leb, eqb}
+use lib.IntN.{ℤ}
+use lib.ListN.{length, getD, drop}
+use Rattle.base.specs.Outcome.{Outcome, done, need, andThen, given}
+use Rattle.scale.specs.Time.{perSecond, Time, isRecord}
+use Rattle.octets.specs.Places.{decimalOf, digits}
+use Rattle.calendar.specs.Gregorian.{ordinalOn, dateIn, indexOfDate, indexOfOrdinal}
+use Rattle.leap.specs.Table.{Table}
+use Rattle.leap.specs.Builtin.{builtin}
+use Rattle.leap.specs.Utc.{readingOf, secondOf}
+use Rattle.ascii.specs.Shapes.{shaped}
+use Rattle.ascii.specs.declared.Layout.{Layout}
+use Rattle.ascii.specs.declared.Moment.{Moment}
+
+-- ---- layouts: "ASCII A or B, digits 0 to 12, Z or none"
+abbrev pub isLayout : Layout → Bool
+isLayout l = leb (l .digits) 12
+
+-- how long a code is without fraction and Z
+abbrev pub frontOf : Bool → ℕ
+frontOf ordinal = cond ordinal 17 19
+
+-- "With 0 digits there is no period"
+abbrev pub partSize : ℕ → ℕ
+partSize d = cond (eqb d 0) 0 (d + 1)
+
+abbrev pub bit : Bool → ℕ
+bit true = 1
+bit false = 0
+
+-- how long a code is; 0 where the layout is none
+unfoldable pub width : Layout → ℕ
+width l = cond (isLayout l) (frontOf (l .ordinal) + partSize (l .digits) + bit (l .zone)) 0
+
+-- the layout of a text of right shape: form A has its second dash, Z stands last, and what is left past the period is the fraction
+unfoldable pub layoutOf : List ℕ → Layout
+layoutOf s =
+    let ordinal = not (eqb (getD s 7 0) 45) in
+    let zone = eqb (getD s (length s - 1) 0) 90 in
+    record { ordinal = ordinal; digits = length s - bit zone - (frontOf ordinal + 1); zone = zone }
+
+-- ---- reading
+-- the number in w digits from a place on
+abbrev pub numberAt : List ℕ → ℕ → ℕ → ℕ
+numberAt s at w = decimalOf (drop at s) w
+
+-- the index of the day that a date names; a bad date is 4
+unfoldable pub dayAt : Bool → List ℕ → Outcome ℕ
+dayAt true s = indexOfOrdinal (numberAt s 0 4) (numberAt s 5 3)
+dayAt false s = indexOfDate (numberAt s 0 4) (numberAt s 5 2) (numberAt s 8 2)
+
+-- "Second 60 is a good field only at 23:59"
+abbrev pub clockOk : ℕ → ℕ → ℕ → Bool
+clockOk h m s = ltb h 24 && (ltb m 60 && (ltb s 60 || (eqb s 60 && (eqb h 23 && eqb m 59))))
+
+abbrev pub secondOfDay : ℕ → ℕ → ℕ → ℕ
+secondOfDay h m s = h * 3600 + m * 60 + s
+
+-- the second of the day that a clock from a place on shows
+unfoldable pub clockAt : List ℕ → ℕ → Outcome ℕ
+clockAt s at =
+    need (clockOk (numberAt s at 2) (numberAt s (at + 3) 2) (numberAt s (at + 6) 2)) 4
+    (done (secondOfDay (numberAt s at 2) (numberAt s (at + 3) 2) (numberAt s (at + 6) 2)))
+
+-- the ticks of a fraction of d digits
+abbrev pub ticksOf : ℕ → ℕ → ℕ
+ticksOf d f = f * (perSecond / 10 ^ d)
+
+-- the day's index, the second of the day and the ticks that the fields name; a field out of its range is 4
+abbrev pub moment : ℕ → ℕ → ℕ → Moment
+moment day second ticks = record { day = day; second = second; ticks = ticks }
+
+unfoldable pub fieldsOf : Layout → List ℕ → Outcome Moment
+fieldsOf l s =
+    andThen (dayAt (l .ordinal) s) (λ day.
+    andThen (clockAt s (frontOf (l .ordinal) - 8)) (λ second.
+    done (moment day second (ticksOf (l .digits) (numberAt s (frontOf (l .ordinal) + 1) (l .digits))))))
+
+-- the time of a moment of UTC: a day outside the table is 5, a second that the day does not have 6
+abbrev pub time : ℤ → ℕ → Time
+time z k = record { sec = z; ticks = k }
+
+unfoldable pub timeOf : Table → Moment → Outcome Time
+timeOf t m = given (λ z. time z (m .ticks)) (secondOf t (m .day) (m .second))
+
+-- "ASCII is empty" 1; "a field .. character or length breaks its rule" 4, the shape before the ranges; 5; 6
+unfoldable pub textBy : Table → List ℕ → Outcome Time
+textBy t s = need (leb 1 (length s)) 1 (need (shaped s) 4 (andThen (fieldsOf (layoutOf s) s) (timeOf t)))
+
+abbrev pub text : List ℕ → Outcome Time
+text s = textBy builtin s
+
+-- ---- writing
+-- a character and w digits
+abbrev pub lead : ℕ → ℕ → ℕ → List ℕ
+lead c w n = c ∷ digits w n
+
+-- the date of the day with an index: form B, or form A
+unfoldable pub dayText : Bool → ℕ → List ℕ
+dayText true n = digits 4 (ordinalOn n .year) ++ lead 45 3 (ordinalOn n .day)
+dayText false n =
+    digits 4 (dateIn (ordinalOn n) .year) ++ (lead 45 2 (dateIn (ordinalOn n) .month) ++ lead 45 2 (dateIn (ordinalOn n) .day))
+
+-- the minute of the day: a second 60 belongs to the last
+abbrev pub minuteOf : ℕ → ℕ
+minuteOf n = cond (ltb n 86400) (n / 60) 1439
+
+unfoldable pub clockText : ℕ → List ℕ
+clockText n = lead 84 2 (minuteOf n / 60) ++ (lead 58 2 (minuteOf n % 60) ++ lead 58 2 (n - minuteOf n * 60))
+
+abbrev pub fractionText : ℕ → ℕ → List ℕ
+fractionText zero f = []
+fractionText (suc d) f = lead 46 (suc d) f
+
+abbrev pub zoneText : Bool → List ℕ
+zoneText true = 90 ∷ []
+zoneText false = []
+
+-- the code of a second of a day and a fraction
+unfoldable pub codeText : Layout → ℕ → ℕ → ℕ → List ℕ
+codeText l day second f =
+    dayText (l .ordinal) day ++ (clockText second ++ (fractionText (l .digits) f ++ zoneText (l .zone)))
+
+-- "The writer takes the fraction downward and never wraps"
+abbrev pub partOf : ℕ → ℕ → ℕ
+partOf d k = k / (perSecond / 10 ^ d)
+
+-- "record 7 .. 3 .. cover 5"
+unfoldable pub bytesBy : Table → Layout → Time → Outcome (List ℕ)
+bytesBy t l r =
+    need (isRecord r) 7
+    (need (isLayout l) 3
+    (andThen (readingOf t (r .sec)) (λ u. done (codeText l (u .day) (u .second) (partOf (l .digits) (r .ticks))))))
+
+abbrev pub bytesOf : Layout → Time → Outcome (List ℕ)
+bytesOf l r = bytesBy builtin l r
+
+-- ---- the times that codes of a layout can hold: those that a text of that layout reads as
+pub record ReadsBy (t : Table) (l : Layout) (x : Time) : Type 0 where
+  pub code : List ℕ
+  pub read : textBy t code ≡ done x
+  pub own : layoutOf code ≡ l
+
+abbrev pub Reads : Layout → Time → Type 0
+Reads l x = ReadsBy builtin l x

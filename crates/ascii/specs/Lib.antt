@@ -1,0 +1,5 @@
+pub mod Cells
+pub mod Quoted
+pub mod Shapes
+pub mod Ascii
+pub mod Inner

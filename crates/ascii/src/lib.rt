@@ -1,0 +1,434 @@
+// ASCII time codes A and B, read and written.
+use base::Refusal;
+use calendar::DateAnswer;
+use calendar::IndexAnswer;
+use calendar::OrdinalAnswer;
+use leap::ReadingAnswer;
+use leap::SecondAnswer;
+use octets::Counted;
+use octets::Written;
+use scale::Record;
+use scale::RecordAnswer;
+ghost use mathlib.Core.Path.{_≡_};
+ghost use mathlib.Core.Bool.{true, false, cond};
+ghost use Prim.Native.Nat.{_+_, _-_, _*_, _^_, _≤_, _<_};
+ghost use lib.ListN.{length};
+ghost use Rattle.base.specs.Outcome.{need, andThen};
+ghost use Rattle.scale.specs.Time.{perSecond};
+ghost use Rattle.scale.specs.Answers.{recorded, saysRecord};
+ghost use Rattle.octets.specs.Places.{digits};
+ghost use Rattle.octets.specs.Stores.{pasted};
+ghost use Rattle.octets.specs.Writes.{roomed, Wrote};
+ghost use Rattle.calendar.specs.Answers.{saysIndex};
+ghost use Rattle.leap.specs.Builtin.{builtin};
+ghost use Rattle.ascii.specs.Ascii.{
+  frontOf,
+  partSize,
+  bit,
+  width,
+  layoutOf,
+  numberAt,
+  dayAt,
+  clockOk,
+  clockAt,
+  ticksOf,
+  fieldsOf,
+  timeOf,
+  text,
+  lead,
+  dayText,
+  minuteOf,
+  clockText,
+  fractionText,
+  zoneText,
+  codeText,
+  bytesOf,
+};
+ghost use Rattle.ascii.specs.Inner.{
+  readAs,
+  figuresAt,
+  dateFigures,
+  clockFigures,
+  figures,
+  separators,
+  Placed,
+  saysClock,
+  saysFound,
+};
+
+// How a code is laid out: form B, with the day of the year, or form A, with month and day; so many digits of
+// fraction; with Z.
+pub struct Layout {
+    pub ordinal: bool,
+    pub digits: usize,
+    pub zone: bool,
+}
+
+// The index of a day, a second of it (86,400 is 23:59:60), and ticks.
+pub struct Moment {
+    pub day: u64,
+    pub second: u64,
+    pub ticks: u64,
+}
+
+// The length of a code, or 0 where the digits are over 12.
+pub fn size(l: Layout) -> usize
+    ensures { λ r. ⌜ r ≡ width l ⌝ }
+{
+    let d = l.digits;
+    if 12 < d {
+        return 0;
+    }
+    front(l.ordinal) + part_size(d) + bit_of(l.zone)
+}
+
+// The length of a code without fraction and Z.
+fn front(ordinal: bool) -> usize
+    ensures { λ r. ⌜ (r ≡ frontOf ordinal) × (17 ≤ r) × (r ≤ 19) ⌝ }
+{
+    if ordinal { 17 } else { 19 }
+}
+
+// The length of a fraction with its period.
+fn part_size(digits: usize) -> usize
+    requires { ⌜ digits ≤ 12 ⌝ }
+    ensures { λ r. ⌜ (r ≡ partSize digits) × (r ≤ 13) ⌝ }
+{
+    if digits == 0 { 0 } else { digits + 1 }
+}
+
+fn bit_of(b: bool) -> usize
+    ensures { λ r. ⌜ (r ≡ bit b) × (r ≤ 1) ⌝ }
+{
+    if b { 1 } else { 0 }
+}
+
+// Reads a code, which is the whole slice.
+pub fn read(s: &[u8]) -> RecordAnswer
+    ensures { λ r. ⌜ saysRecord r ≡ text (now (s .entry)) ⌝ }
+{
+    let len = s.len();
+    if len < 1 {
+        return RecordAnswer::Refused(Refusal::Short);
+    }
+    if len < 17 {
+        return RecordAnswer::Refused(Refusal::Field);
+    }
+    let l = layout_of(s);
+    if size(l) != len {
+        return RecordAnswer::Refused(Refusal::Field);
+    }
+    if !separated(s, l) {
+        return RecordAnswer::Refused(Refusal::Field);
+    }
+    match fields(s, l) {
+        Found::Bad => RecordAnswer::Refused(Refusal::Field),
+        Found::Done(m) => record_of(m),
+    }
+}
+
+// The layout that a text has if its shape is right.
+fn layout_of(s: &[u8]) -> Layout
+    requires { ⌜ 17 ≤ length (now s) ⌝ }
+    ensures { λ r. ⌜ r ≡ layoutOf (now (s .entry)) ⌝ }
+{
+    let len = s.len();
+    let last = len - 1;
+    let ordinal = s[7] != 45;
+    let zone = s[last] == 90;
+    let end = len - bit_of(zone);
+    let digits = past(end, front(ordinal) + 1);
+    Layout {
+        ordinal: ordinal,
+        digits: digits,
+        zone: zone,
+    }
+}
+
+// How far n is past m.
+fn past(n: usize, m: usize) -> usize
+    ensures { λ r. ⌜ r ≡ n - m ⌝ }
+{
+    if n < m { 0 } else { n - m }
+}
+
+// Whether the dash, T, the colons and the period stand where they should. The second dash and Z are what the layout
+// was told by.
+fn separated(s: &[u8], l: Layout) -> bool
+    requires { ⌜ Placed l (length (now s)) ⌝ }
+    ensures { λ r. ⌜ r ≡ separators l (now (s .entry)) ⌝ }
+{
+    let digits = l.digits;
+    let end = front(l.ordinal);
+    let t = end - 9;
+    let m = end - 6;
+    let n = end - 3;
+    let marks = (s[4] == 45) & ((s[t] == 84) & ((s[m] == 58) & (s[n] == 58)));
+    if digits == 0 {
+        return marks;
+    }
+    marks & (s[end] == 46)
+}
+
+// What the fields name, or that one breaks its rule.
+enum Found {
+    Done(Moment),
+    Bad,
+}
+
+// Reads the date, the clock and the fraction.
+fn fields(s: &[u8], l: Layout) -> Found
+    requires { ⌜ Placed l (length (now s)) ⌝ }
+    ensures { λ r. ⌜ saysFound r ≡ need (figures l (now (s .entry))) 4 (fieldsOf l (now (s .entry))) ⌝ }
+{
+    let end = front(l.ordinal);
+    let date = day_at(s, l.ordinal);
+    match date {
+        IndexAnswer::Refused(_) => Found::Bad,
+        IndexAnswer::Done(day) => {
+            let clock = clock_at(s, end - 8);
+            match clock {
+                Clock::Bad => Found::Bad,
+                Clock::Second(second) => {
+                    let ticks = fraction(s, end + 1, l.digits);
+                    if ticks < Record::TICKS {
+                        return Found::Done(Moment {
+                            day: day,
+                            second: second,
+                            ticks: ticks,
+                        });
+                    }
+                    Found::Bad
+                }
+            }
+        }
+    }
+}
+
+// The number in w digits from `at` on, or 10^w where one is no digit, which no field takes.
+fn number(s: &[u8], at: usize, w: usize) -> u64
+    requires { ⌜ (w ≤ 12) × (at + w ≤ length (now s)) ⌝ }
+    ensures { λ r. ⌜ (r ≡ readAs (now (s .entry)) at w) × (r ≤ 10 ^ w) ⌝ }
+{
+    let answer = octets::decimal(s, at, w);
+    match answer {
+        Counted::Done(n) => n,
+        Counted::Bad => octets::power10(w),
+        Counted::Out => octets::power10(w),
+    }
+}
+
+// The index of the day that a date names.
+fn day_at(s: &[u8], ordinal: bool) -> IndexAnswer
+    requires { ⌜ 17 ≤ length (now s) ⌝ }
+    ensures { λ r. ⌜ saysIndex r ≡ need (dateFigures ordinal (now (s .entry))) 4 (dayAt ordinal (now (s .entry))) ⌝ }
+{
+    let year = number(s, 0, 4);
+    if ordinal {
+        let day = number(s, 5, 3);
+        return calendar::index_of_ordinal(year, day);
+    }
+    let month = number(s, 5, 2);
+    let day = number(s, 8, 2);
+    calendar::index_of_date(year, month, day)
+}
+
+// The second of the day that a clock shows, or that a field breaks its rule.
+enum Clock {
+    Second(u64),
+    Bad,
+}
+
+// Reads hh:mm:ss from `at` on.
+fn clock_at(s: &[u8], at: usize) -> Clock
+    requires { ⌜ at + 8 ≤ length (now s) ⌝ }
+    ensures { λ r. ⌜ saysClock r ≡ need (clockFigures (now (s .entry)) at) 4 (clockAt (now (s .entry)) at) ⌝ }
+{
+    let h = number(s, at, 2);
+    let m = number(s, at + 3, 2);
+    let sec = number(s, at + 6, 2);
+    if clock_ok(h, m, sec) {
+        return Clock::Second(h * 3600 + m * 60 + sec);
+    }
+    Clock::Bad
+}
+
+// Whether the fields of a clock are in their ranges; second 60 is good only at 23:59.
+fn clock_ok(h: u64, m: u64, s: u64) -> bool
+    ensures { λ r. ⌜ r ≡ clockOk h m s ⌝ }
+{
+    (h < 24) & ((m < 60) & ((s < 60) | ((s == 60) & ((h == 23) & (m == 59)))))
+}
+
+// The ticks of a fraction, or those of a second where one of its characters is no digit.
+fn fraction(s: &[u8], at: usize, d: usize) -> u64
+    requires { ⌜ (d ≤ 12) × (1 ≤ d → at + d ≤ length (now s)) ⌝ }
+    ensures { λ r. ⌜ r ≡ cond (figuresAt (now (s .entry)) at d) (ticksOf d (numberAt (now (s .entry)) at d)) perSecond ⌝ }
+{
+    if d == 0 {
+        return 0;
+    }
+    let n = number(s, at, d);
+    let power = octets::power10(d);
+    n * (Record::TICKS / power)
+}
+
+// The record of a moment of UTC.
+fn record_of(m: Moment) -> RecordAnswer
+    ensures { λ r. ⌜ saysRecord r ≡ timeOf builtin m ⌝ }
+{
+    let ticks = m.ticks;
+    let answer = leap::second_of(m.day, m.second);
+    match answer {
+        SecondAnswer::Refused(why) => RecordAnswer::Refused(why),
+        SecondAnswer::Done(sec) => RecordAnswer::Done(Record {
+            sec: sec,
+            ticks: ticks,
+        }),
+    }
+}
+
+// Writes a code from `at` on: the bytes before and after it stay, and a refusal leaves all.
+pub fn write(r: Record, l: Layout, out: &mut [u8], at: usize) -> Written
+    ensures { λ a. ⌜ Wrote (andThen (bytesOf l (recorded r)) (roomed (now (out .entry)) at)) at (now (out .entry)) (now (out .exit)) a ⌝ }
+{
+    let sec = r.sec;
+    let ticks = r.ticks;
+    let digits = l.digits;
+    if !r.valid() {
+        return Written::Refused(Refusal::Range);
+    }
+    if 12 < digits {
+        return Written::Refused(Refusal::Unsupported);
+    }
+    let answer = leap::reading_of(sec);
+    match answer {
+        ReadingAnswer::Refused(why) => Written::Refused(why),
+        ReadingAnswer::Done(u) => {
+            let power = octets::power10(digits);
+            let part = ticks / (Record::TICKS / power);
+            store(out, at, l, u.day, u.second, part)
+        }
+    }
+}
+
+// Stores a code where there is room.
+fn store(out: &mut [u8], at: usize, l: Layout, day: u64, second: u64, part: u64) -> Written
+    requires { ⌜ (day ≤ 3652058) × (l .digits ≤ 12) ⌝ }
+    ensures { λ a. ⌜ Wrote (roomed (now (out .entry)) at (codeText l day second part)) at (now (out .entry)) (now (out .exit)) a ⌝ }
+{
+    let n = size(l);
+    let len = out.len();
+    if len < at {
+        return Written::Refused(Refusal::Room);
+    }
+    if len - at < n {
+        return Written::Refused(Refusal::Room);
+    }
+    put_code(out, at, l, day, second, part);
+    Written::Done(at + n)
+}
+
+// Puts a code: the date, the clock, the fraction and Z.
+fn put_code(out: &mut [u8], at: usize, l: Layout, day: u64, second: u64, part: u64)
+    requires { ⌜ (day ≤ 3652058) × (l .digits ≤ 12) × (at + width l ≤ length (now out)) ⌝ }
+    ensures { λ _. ⌜ now (out .exit) ≡ pasted (now (out .entry)) at (codeText l day second part) ⌝ }
+{
+    let t = put_day(out, at, l.ordinal, day);
+    put_clock(out, t, second);
+    let end = put_fraction(out, t + 9, l.digits, part);
+    put_zone(out, end, l.zone);
+}
+
+// Puts the date of a day, and says where it ends.
+fn put_day(out: &mut [u8], at: usize, ordinal: bool, day: u64) -> usize
+    requires { ⌜ (day ≤ 3652058) × (at + frontOf ordinal ≤ length (now out) + 9) ⌝ }
+    ensures { λ r. ⌜ (r + 9 ≡ at + frontOf ordinal) × (now (out .exit) ≡ pasted (now (out .entry)) at (dayText ordinal day)) ⌝ }
+{
+    if ordinal {
+        put_ordinal(out, at, day);
+        return at + 8;
+    }
+    put_date(out, at, day);
+    at + 10
+}
+
+// Puts YYYY-DDD.
+fn put_ordinal(out: &mut [u8], at: usize, day: u64)
+    requires { ⌜ (day ≤ 3652058) × (at + 8 ≤ length (now out)) ⌝ }
+    ensures { λ _. ⌜ now (out .exit) ≡ pasted (now (out .entry)) at (dayText true day) ⌝ }
+{
+    let answer = calendar::ordinal_at(day);
+    match answer {
+        OrdinalAnswer::Refused(_) => {}
+        OrdinalAnswer::Done(o) => {
+            octets::put_decimal(out, at, 4, o.year);
+            put_lead(out, at + 4, 45, 3, o.day);
+        }
+    }
+}
+
+// Puts YYYY-MM-DD.
+fn put_date(out: &mut [u8], at: usize, day: u64)
+    requires { ⌜ (day ≤ 3652058) × (at + 10 ≤ length (now out)) ⌝ }
+    ensures { λ _. ⌜ now (out .exit) ≡ pasted (now (out .entry)) at (dayText false day) ⌝ }
+{
+    let answer = calendar::date_at(day);
+    match answer {
+        DateAnswer::Refused(_) => {}
+        DateAnswer::Done(d) => {
+            octets::put_decimal(out, at, 4, d.year);
+            put_lead(out, at + 4, 45, 2, d.month);
+            put_lead(out, at + 7, 45, 2, d.day);
+        }
+    }
+}
+
+// Puts T and the clock of a second of the day.
+fn put_clock(out: &mut [u8], at: usize, second: u64)
+    requires { ⌜ at + 9 ≤ length (now out) ⌝ }
+    ensures { λ _. ⌜ now (out .exit) ≡ pasted (now (out .entry)) at (clockText second) ⌝ }
+{
+    let m = minute_of(second);
+    put_lead(out, at, 84, 2, m / 60);
+    put_lead(out, at + 3, 58, 2, m % 60);
+    put_lead(out, at + 6, 58, 2, second - m * 60);
+}
+
+// The minute of the day: a second 60 belongs to the last.
+fn minute_of(second: u64) -> u64
+    ensures { λ r. ⌜ (r ≡ minuteOf second) × (r * 60 ≤ second) ⌝ }
+{
+    if second < 86400 { second / 60 } else { 1439 }
+}
+
+// Puts a fraction of d digits with its period, and says where it ends.
+fn put_fraction(out: &mut [u8], at: usize, d: usize, part: u64) -> usize
+    requires { ⌜ (d ≤ 12) × (at + partSize d ≤ length (now out)) ⌝ }
+    ensures { λ r. ⌜ (r ≡ at + partSize d) × (now (out .exit) ≡ pasted (now (out .entry)) at (fractionText d part)) ⌝ }
+{
+    if d == 0 {
+        return at;
+    }
+    put_lead(out, at, 46, d, part);
+    at + (d + 1)
+}
+
+// Puts Z where the layout has it.
+fn put_zone(out: &mut [u8], at: usize, zone: bool)
+    requires { ⌜ at + bit zone ≤ length (now out) ⌝ }
+    ensures { λ _. ⌜ now (out .exit) ≡ pasted (now (out .entry)) at (zoneText zone) ⌝ }
+{
+    if zone {
+        out[at] = 90;
+    }
+}
+
+// Puts a character and the last w digits of n.
+fn put_lead(out: &mut [u8], at: usize, c: u8, w: usize, n: u64)
+    requires { ⌜ at + 1 + w ≤ length (now out) ⌝ }
+    ensures { λ _. ⌜ now (out .exit) ≡ pasted (now (out .entry)) at (lead c w n) ⌝ }
+{
+    out[at] = c;
+    octets::put_decimal(out, at + 1, w, n);
+}

@@ -1,0 +1,82 @@
+// ASCII codes, read and written, and the wall clock.
+use octets::Written;
+use scale::Record;
+use scale::RecordAnswer;
+ghost use mathlib.Core.Path.{_≡_};
+ghost use Rattle.base.specs.Outcome.{status, cell};
+ghost use Rattle.octets.specs.Writes.{filled};
+ghost use Rattle.ascii.specs.Ascii.{text};
+ghost use Rattle.codes.specs.Setting.{asciiOf, wallOf};
+ghost use Rattle.honigzange.specs.Cells.{time, secOf, ticksOf, lengthOf, asciiLayout};
+
+// The moment of an ASCII code, which is the whole text.
+#[no_mangle]
+pub extern "C" fn hz_read_ascii(code: &[u8], sec: &mut i64, ticks: &mut u64) -> u8
+    ensures answer { λ r. ⌜ r ≡ status (text (now (code .entry))) ⌝ }
+    ensures seconds { λ _. ⌜ now (sec .exit) ≡ cell secOf (text (now (code .entry))) (now (sec .entry)) ⌝ }
+    ensures parts { λ _. ⌜ now (ticks .exit) ≡ cell ticksOf (text (now (code .entry))) (now (ticks .entry)) ⌝ }
+{
+    match ascii::read(code) {
+        RecordAnswer::Refused(why) => why.number(),
+        RecordAnswer::Done(r) => {
+            let whole = r.sec;
+            let part = r.ticks;
+            *sec = whole;
+            *ticks = part;
+            0
+        }
+    }
+}
+
+// A moment as an ASCII code.
+#[no_mangle]
+pub extern "C" fn hz_write_ascii(
+    sec: i64,
+    ticks: u64,
+    day_of_year: bool,
+    digits: u8,
+    z: bool,
+    out: &mut [u8],
+    written: &mut usize,
+) -> u8
+    ensures answer { λ r. ⌜ r ≡ status (asciiOf (asciiLayout «day_of_year» digits z) (time sec ticks) (now (out .entry))) ⌝ }
+    ensures bytes { λ _. ⌜ now (out .exit) ≡ filled 0 (asciiOf (asciiLayout «day_of_year» digits z) (time sec ticks) (now (out .entry))) (now (out .entry)) ⌝ }
+    ensures count { λ _. ⌜ now (written .exit) ≡ cell lengthOf (asciiOf (asciiLayout «day_of_year» digits z) (time sec ticks) (now (out .entry))) (now (written .entry)) ⌝ }
+{
+    let r = Record {
+        sec: sec,
+        ticks: ticks,
+    };
+    let l = ascii::Layout {
+        ordinal: day_of_year,
+        digits: digits as usize,
+        zone: z,
+    };
+    match ascii::write(r, l, out, 0) {
+        Written::Refused(why) => why.number(),
+        Written::Done(n) => {
+            *written = n;
+            0
+        }
+    }
+}
+
+// A moment in the default setting.
+#[no_mangle]
+pub extern "C" fn hz_write_wall(sec: i64, ticks: u64, out: &mut [u8], written: &mut usize) -> u8
+    ensures answer { λ r. ⌜ r ≡ status (wallOf (time sec ticks) (now (out .entry))) ⌝ }
+    ensures bytes { λ _. ⌜ now (out .exit) ≡ filled 0 (wallOf (time sec ticks) (now (out .entry))) (now (out .entry)) ⌝ }
+    ensures count { λ _. ⌜ now (written .exit) ≡ cell lengthOf (wallOf (time sec ticks) (now (out .entry))) (now (written .entry)) ⌝ }
+{
+    let r = Record {
+        sec: sec,
+        ticks: ticks,
+    };
+    match codes::setting::write_wall(r, out) {
+        Written::Refused(why) => why.number(),
+        Written::Done(n) => {
+            *written = n;
+            0
+        }
+    }
+}
