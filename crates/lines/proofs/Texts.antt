@@ -1,0 +1,120 @@
+-- What is printed for a line, by its outcome, and put into lent bytes.
+use mathlib.Core.Path.{_≡_, refl, sym, ap, _∙_}
+use mathlib.Core.List.{List, [], _∷_}
+use Prim.Native.Nat.{ℕ, suc, _+_, _<_, _≤_}
+use native.Mathlib.Omega.{arith}
+use lib.Dec.{leb}
+use lib.ListN.{length, set, length-append}
+use lib.Seq.{sets-eq}
+use borrow.Author.Tests.{le-leb, lt-leb}
+use Rattle.base.specs.Outcome.{Outcome, done, refused, andThen}
+use Rattle.base.specs.Refusals.{number}
+use Rattle.base.specs.declared.Refusal.{Refusal}
+use Rattle.base.specs.declared.Refusal.the-variants.{Short, Identification, Unsupported, Field, Uncovered, NoSuchSecond, Range, Room, Window}
+use Rattle.base.proofs.Ladders.{never, done-is, refused-is, need-yes, need-no, need-done, then-done}
+use Rattle.scale.specs.Time.{Time}
+use Rattle.octets.specs.Stores.{pasted}
+use Rattle.octets.specs.Writes.{roomed, Wrote}
+use Rattle.octets.specs.declared.Written.{Written}
+use Rattle.octets.specs.declared.Written.the-variants.{Done, Refused}
+use Rattle.octets.proofs.Writes.{room-in}
+use Rattle.octets.proofs.Pastes.{length-pasted, paste-one, then}
+use Rattle.ascii.specs.Ascii.{width, text, bytesOf}
+use Rattle.ascii.proofs.Promises.{write-width}
+use Rattle.codes.specs.Setting.{defaultLayout}
+use Rattle.lines.specs.Answer.{printed, outcomeOf, answerOf}
+
+-- ---- a refusal
+pub number-small : (why : Refusal) → number why ≤ 9
+number-small Short = omega arith
+number-small Identification = omega arith
+number-small Unsupported = omega arith
+number-small Field = omega arith
+number-small Uncovered = omega arith
+number-small NoSuchSecond = omega arith
+number-small Range = omega arith
+number-small Room = omega arith
+number-small Window = omega arith
+
+pub length-refused : (n : ℕ) → length (printed (refused n)) ≡ 10
+unfolding printed
+length-refused n = refl
+
+-- the ten stores
+pub stored-refusal : (d : List ℕ) (at n : ℕ) → at + 10 ≤ length d
+    → set (set (set (set (set (set (set (set (set (set d at 114) (at + 1) 101) (at + 2) 102) (at + 3) 117) (at + 4) 115) (at + 5) 101) (at + 6) 100) (at + 7) 32) (at + 8) (48 + n)) (at + 9) 10 ≡ pasted d at (printed (refused n))
+unfolding pasted printed
+stored-refusal d at n h =
+    let e1 : at + 1 ≡ suc at = omega arith in
+    let e2 : at + 2 ≡ suc (suc at) = omega arith in
+    let e3 : at + 3 ≡ suc (suc (suc at)) = omega arith in
+    let e4 : at + 4 ≡ suc (suc (suc (suc at))) = omega arith in
+    let e5 : at + 5 ≡ suc (suc (suc (suc (suc at)))) = omega arith in
+    let e6 : at + 6 ≡ suc (suc (suc (suc (suc (suc at))))) = omega arith in
+    let e7 : at + 7 ≡ suc (suc (suc (suc (suc (suc (suc at)))))) = omega arith in
+    let e8 : at + 8 ≡ suc (suc (suc (suc (suc (suc (suc (suc at))))))) = omega arith in
+    let e9 : at + 9 ≡ suc (suc (suc (suc (suc (suc (suc (suc (suc at)))))))) = omega arith in
+    rw (e1, e2, e3, e4, e5, e6, e7, e8, e9) (sets-eq (printed (refused n)) d at h)
+
+-- ---- the outcome of a line
+pub of-long : (p : List ℕ) → 64 < length p → outcomeOf p ≡ refused 4
+unfolding outcomeOf
+of-long p h = need-no 4 _ (lt-leb (length p) 64 h)
+
+pub of-read : (p : List ℕ) → length p ≤ 64 → (x : Outcome Time) → x ≡ text p → outcomeOf p ≡ andThen x (bytesOf defaultLayout)
+unfolding outcomeOf
+of-read p h x e = need-yes 4 _ (le-leb (length p) 64 h) ∙ ap (λ (y : Outcome Time). andThen y (bytesOf defaultLayout)) (sym e)
+
+-- a code of the default layout has 24 bytes
+pub length-code : (t : Time) (code : List ℕ) → bytesOf defaultLayout t ≡ done code → length code ≡ 24
+unfolding width
+length-code t code e = write-width defaultLayout t code e
+
+length-printed : (x : Outcome (List ℕ)) → ((code : List ℕ) → x ≡ done code → length code ≡ 24) → length (printed x) ≤ 25
+unfolding printed
+length-printed (done code) h = omega (arith, length-append code (10 ∷ []), h code refl)
+length-printed (refused n) h = omega (arith, length-refused n)
+
+done-length : (p code : List ℕ) → outcomeOf p ≡ done code → length code ≡ 24
+unfolding outcomeOf
+done-length p code e =
+    let (t, (f, g)) = then-done (text p) (bytesOf defaultLayout) code (need-done (leb (length p) 64) 4 _ code e .1) in
+    length-code t code g
+
+pub length-answer : (p : List ℕ) → length (answerOf p) ≤ 25
+length-answer p = length-printed (outcomeOf p) (done-length p)
+
+-- ---- what a write left, where there was room
+pub record Shown (x : Outcome (List ℕ)) (at : ℕ) (old new : List ℕ) (end : ℕ) : Type 0 where
+  pub within : end < length new
+  pub past : end + 1 ≡ at + length (printed x)
+  pub put : set new end 10 ≡ pasted old at (printed x)
+
+module _ (x : Outcome (List ℕ)) (at : ℕ) (old : List ℕ) (room : at + 80 ≤ length old) (size : (code : List ℕ) → x ≡ done code → length code ≡ 24) where
+  roomy : (y : Outcome (List ℕ)) → x ≡ y → andThen y (roomed old at) ≡ y
+  roomy (done code) e = room-in code at old (omega (arith, size code e))
+  roomy (refused n) e = refl
+
+  pub refused-line : (why : Refusal) (new : List ℕ) (a : Written) → a ≡ Refused why → Wrote (andThen x (roomed old at)) at old new a → (new ≡ old) × (x ≡ refused (number why))
+  refused-line why new a f w = go x refl (rw (roomy x refl, f) at w)
+    where
+      go : (y : Outcome (List ℕ)) → x ≡ y → Wrote y at old new (Refused why) → (new ≡ old) × (x ≡ refused (number why))
+      go (done code) e v = never (number why) _ (v .answer)
+      go (refused n) e v = (v .bytes, e ∙ ap refused (sym (refused-is (number why) n (v .answer))))
+
+  pub written-line : (end : ℕ) (new : List ℕ) (a : Written) → a ≡ Done end → Wrote (andThen x (roomed old at)) at old new a → Shown x at old new end
+  unfolding printed
+  written-line end new a f w = go x refl (rw (roomy x refl, f) at w)
+    where
+      go : (y : Outcome (List ℕ)) → x ≡ y → Wrote y at old new (Done end) → Shown x at old new end
+      go (done code) e v =
+          let n : end ≡ at + length code = done-is end (at + length code) (v .answer) in
+          let k = size code e in
+          let l : length new ≡ length old = ap length (v .bytes) ∙ length-pasted old at code (omega arith) in
+          let s : set new end 10 ≡ pasted new end (10 ∷ []) = paste-one new end 10 (omega arith) in
+          record {
+            within = omega arith;
+            past = rw e (omega (arith, length-append code (10 ∷ [])));
+            put = rw e (then old code (10 ∷ []) at end (v .bytes) s n (omega arith));
+          }
+      go (refused m) e v = never m _ (sym (v .answer))

@@ -1,0 +1,21 @@
+-- What is printed for one line (document 01: "For each it prints one line: the record in the default setting, or "refused " and the number").
+use mathlib.Core.List.{List, [], _∷_, _++_}
+use Prim.Native.Nat.{ℕ, _+_}
+use lib.Dec.{leb}
+use lib.ListN.{length}
+use Rattle.base.specs.Outcome.{Outcome, done, refused, need, andThen}
+use Rattle.ascii.specs.Quoted.{bytes}
+use Rattle.ascii.specs.Ascii.{text, bytesOf}
+use Rattle.codes.specs.Setting.{defaultLayout}
+
+-- a code, or a refusal's number in one digit, and the line feed
+unfoldable pub printed : Outcome (List ℕ) → List ℕ
+printed (done code) = code ++ 10 ∷ []
+printed (refused n) = bytes "refused " ++ ((48 + n) ∷ 10 ∷ [])
+
+-- "A line over 64 bytes is 4"; else it is read as a full ASCII code, and the record is written in the default setting
+unfoldable pub outcomeOf : List ℕ → Outcome (List ℕ)
+outcomeOf p = need (leb (length p) 64) 4 (andThen (text p) (bytesOf defaultLayout))
+
+abbrev pub answerOf : List ℕ → List ℕ
+answerOf p = printed (outcomeOf p)

@@ -1,0 +1,4 @@
+pub mod Answer
+pub mod Split
+pub mod Says
+pub mod Runs

@@ -1,0 +1,7 @@
+-- the laws that the crates above cite
+pub mod Moments
+pub mod Room
+pub mod Lister
+pub mod Ticks
+pub mod Members
+pub mod Once
