@@ -7,7 +7,7 @@ struct Turn {
     more: bool,
 }
 
-// Answers what a piece holds, and writes each buffer of answers. A write that fails ends it.
+// Answers what a piece holds, and writes each buffer of answers. After a write that fails, nothing more is written.
 fn drain(line: Line, piece: &[u8], out: &mut [u8]) -> Turn {
     let mut held = line;
     let mut at: usize = 0;
@@ -25,8 +25,9 @@ fn drain(line: Line, piece: &[u8], out: &mut [u8]) -> Turn {
         at += u;
         let is_written = io::write_all(1, &out[..w]);
         if !is_written {
+            let none = lines::start();
             return Turn {
-                line: held,
+                line: none,
                 more: false,
             };
         }

@@ -45,6 +45,9 @@ slice-aggregate-write-all c = search needs
 write-all-requires : tie.Need-write-all-requires Inv-loop μ-loop
 write-all-requires c κs = search needs
 
+start-requires : tie.Need-start-requires Inv-loop μ-loop
+start-requires c κs = search needs
+
 same-length-2 : tie.Need-same-length-2 Inv-loop μ-loop
 same-length-2 c = search needs
 
@@ -80,6 +83,7 @@ drain-spec =
     slice-reshare-prefix-write-all
     slice-aggregate-write-all
     write-all-requires
+    start-requires
     same-length-2
     returns-2
     loop-less
