@@ -53,7 +53,7 @@ pub enum SecondAnswer {
 }
 
 // Days are counted from 1958-01-01.
-const LEAPS: [[u64; 2]; 28] = [
+const LEAPS: [[u16; 2]; 28] = [
     [5113, 10],
     [5295, 11],
     [5479, 12],
@@ -174,8 +174,8 @@ fn row_at(i: usize) -> Row
     ensures { λ r. ⌜ (r ≡ rowAt builtin i) × Small r ⌝ }
 {
     let rows = LEAPS;
-    let day = rows[i][0] + 714779;
-    let offset = rows[i][1] + 64;
+    let day = rows[i][0] as u64 + 714779;
+    let offset = rows[i][1] as u64 + 64;
     Row { day, offset }
 }
 
@@ -202,7 +202,7 @@ fn row_on_day(day: u64) -> usize
     let rows = LEAPS;
     let mut i = 27;
     while 0 < i {
-        if rows[i][0] + 714779 <= day {
+        if rows[i][0] as u64 + 714779 <= day {
             return i;
         }
         i -= 1;
@@ -218,7 +218,7 @@ fn row_in_second(s: u64) -> usize
     let rows = LEAPS;
     let mut i = 27;
     while 0 < i {
-        if (rows[i][0] + 714779) * 86400 + (rows[i][1] + 64) <= s {
+        if (rows[i][0] as u64 + 714779) * 86400 + (rows[i][1] as u64 + 64) <= s {
             return i;
         }
         i -= 1;

@@ -24,6 +24,9 @@ index-2-day c = search needs
 small : (i : ℕ) → i < 28 → Small (rowOf (getD published i []))
 small i h = rw (row-is i h) at (row-small i h)
 
+cast-day : tie.Need-cast-day
+cast-day c = omega (arith, small (c .before .args .i) (c .before .pre) .day-high)
+
 add-day : tie.Need-add-day
 add-day c = omega (arith, small (c .before .args .i) (c .before .pre) .day-high)
 
@@ -35,6 +38,9 @@ index-1-offset c = search needs
 
 index-2-offset : tie.Need-index-2-offset
 index-2-offset c = search needs
+
+cast-offset : tie.Need-cast-offset
+cast-offset c = omega (arith, small (c .before .before .args .i) (c .before .before .pre) .offset-high)
 
 add-offset : tie.Need-add-offset
 add-offset c = omega (arith, small (c .before .before .args .i) (c .before .before .pre) .offset-high)
@@ -51,9 +57,11 @@ row-at-spec =
     mul-day
     index-1-day
     index-2-day
+    cast-day
     add-day
     mul-offset
     index-1-offset
     index-2-offset
+    cast-offset
     add-offset
     returns)

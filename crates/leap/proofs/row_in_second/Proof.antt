@@ -36,6 +36,9 @@ index-1-if1 c = omega arith
 index-2-if1 : tie.Need-index-2-if1 Inv-loop μ-loop
 index-2-if1 c = search needs
 
+cast-if1 : tie.Need-cast-if1 Inv-loop μ-loop
+cast-if1 c = let l = c .before .before .loop in omega (arith, read (l .i) (l .inv .0))
+
 add-if1 : tie.Need-add-if1 Inv-loop μ-loop
 add-if1 c = let l = c .before .before .loop in omega (arith, read (l .i) (l .inv .0))
 
@@ -50,6 +53,9 @@ index-1-if1-2 c = omega arith
 
 index-2-if1-2 : tie.Need-index-2-if1-2 Inv-loop μ-loop
 index-2-if1-2 c = search needs
+
+cast-if1-2 : tie.Need-cast-if1-2 Inv-loop μ-loop
+cast-if1-2 c = let l = c .before .before .before .loop in omega (arith, read (l .i) (l .inv .0))
 
 add-if1-2 : tie.Need-add-if1-2 Inv-loop μ-loop
 add-if1-2 c = let l = c .before .before .before .loop in omega (arith, read (l .i) (l .inv .0))
@@ -90,11 +96,13 @@ row-in-second-spec =
     mul-if1
     index-1-if1
     index-2-if1
+    cast-if1
     add-if1
     mul-if1-2
     mul-if1-3
     index-1-if1-2
     index-2-if1-2
+    cast-if1-2
     add-if1-2
     add-if1-3
     returns

@@ -36,6 +36,9 @@ index-1-if1 c = omega arith
 index-2-if1 : tie.Need-index-2-if1 Inv-loop μ-loop
 index-2-if1 c = search needs
 
+cast-if1 : tie.Need-cast-if1 Inv-loop μ-loop
+cast-if1 c = let i = c .before .before .loop .i in omega (arith, read i (c .before .before .loop .inv .0))
+
 add-if1 : tie.Need-add-if1 Inv-loop μ-loop
 add-if1 c = let i = c .before .before .loop .i in omega (arith, read i (c .before .before .loop .inv .0))
 
@@ -72,6 +75,7 @@ row-on-day-spec =
     mul-if1
     index-1-if1
     index-2-if1
+    cast-if1
     add-if1
     returns
     sub-i
