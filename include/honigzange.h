@@ -358,6 +358,113 @@ uint8_t hz_write_ascii(int64_t sec, uint64_t ticks, bool day_of_year, uint8_t di
  */
 uint8_t hz_write_wall(int64_t sec, uint64_t ticks, uint8_t *out, size_t room, size_t *written);
 
+/*
+ * SHORTENED TAGS. A tag is what a link sends of a code when the rest is plain from the context: it names every
+ * moment that it may stand for. A call lists those that lie in a window.
+ *
+ *   window      Its start is taken and its end is not. Equal ends make an empty window.
+ *   list        The seconds of the named moments of the window, ascending, each once, from the first on: all
+ *               of them, or as many as there is room for. None up to the last one listed is skipped. All
+ *               moments that a tag names have the same ticks, which are told once, beside the list.
+ *   more        Whether the window has named moments beyond those listed. They are listed by a call whose
+ *               window starts one tick after the last one listed.
+ *
+ * A good tag that names nothing in the window is not refused: the answer is 0, the ticks are the tag's, the
+ * count is 0 and more is false. So it is with a tag's own date outside the table of leap seconds, as 1971, and
+ * with a second 60 on a day without one.
+ *
+ * A CUC tag is a P octet, in front or known to both ends, and exactly its T-field: a counter of c coarse octets
+ * that wraps. It names epoch + T + k * 256^c seconds for every whole k from 0 on, T taken with its fraction.
+ *
+ * An ASCII tag is one run of neighbouring subfields of an ASCII code:
+ *
+ *   calendar    YYYY-MM-DD, -MM-DD, --DD, YYYY-MM, -MM, YYYY, YYYY-DDD or -DDD
+ *   time        begins at hh, with : at mm, with :: at ss or with ::. at the first digit of the fraction, and
+ *               ends after any of its subfields, of which each of up to 12 digits is one; then Z, or nothing
+ *   both        a calendar that ends with its day, T, and a time that begins at hh
+ *
+ * Subfields dropped on the left are free, and their separators stay. Subfields dropped on the right have their
+ * lowest value, and their separators go. So a calendar alone means 00:00:00, and a time alone leaves the date
+ * free. Second 60 stands in a tag whose minute, if there, is 59 and whose hour, if there, is 23.
+ *
+ *   ::60             the leap seconds; 27 are covered, the first TAI second 457488010, the last 1861920036
+ *   -366T23:59:60    the leap seconds that end leap years, 1972, 1976, 2008 and 2016
+ *   -02-29           the first second of every 29 February, 14 times
+ *   12               12:00:00 of every day
+ *   ::.5             the middle of every second
+ *
+ *     int64_t leaps[16];
+ *     uint64_t ticks;
+ *     size_t count;
+ *     bool more;
+ *     uint8_t refusal = hz_list_ascii((const uint8_t *)"::60", 4, 441763210, 0, 2145916837, 0,
+ *                                     leaps, sizeof leaps / sizeof *leaps, &ticks, &count, &more);
+ *
+ * Now refusal is 0, ticks 0, count 16, leaps[0] 457488010, and more is true. For the others the call is made
+ * again from leaps[15] and 1 tick on.
+ */
+
+/*
+ * The moments of a window that a CUC tag names.
+ *
+ * tag, len: the tag and nothing else. NULL only when len is 0.
+ * front: true, the P octet is the first byte; false, it is p and all bytes are the T-field.
+ * p: the P octet. Ignored when front is true.
+ * epoch: whole TAI seconds (CUC 010). Ignored, whatever it is, by a tag that does not use it.
+ * from_sec, from_ticks and to_sec, to_ticks: two records, the window's start and its end.
+ * list, room: the seconds are written to the first elements; later ones stay as they were. NULL only when room
+ *             is 0: then nothing is listed, and more tells whether the window has any.
+ * ticks: the tick count of all moments that the tag names is written here, also when nothing is listed.
+ * count: the number listed is written here, room or the number of named moments in the window, whichever is
+ *        less.
+ * more: whether the window has named moments beyond those listed is written here.
+ *
+ * 0                  done.
+ *
+ * Refused with the first of these that holds:
+ * HZ_SHORT           front is true and len is 0.
+ * HZ_IDENTIFICATION  bits 1-3 of the P octet are neither 001 nor 010: other codes have no such tags.
+ * HZ_UNSUPPORTED     its bit 0 is set.
+ * HZ_RANGE           the tag uses the epoch, and that is outside its range.
+ * HZ_SHORT           the bytes end before the T-field does.
+ * HZ_FIELD           the T-field ends before the bytes do.
+ * HZ_RANGE           one of the records is invalid.
+ * HZ_WINDOW          the window's end is before its start.
+ */
+uint8_t hz_list_cuc(const uint8_t *tag, size_t len, bool front, uint8_t p, int64_t epoch,
+                    int64_t from_sec, uint64_t from_ticks, int64_t to_sec, uint64_t to_ticks,
+                    int64_t *list, size_t room, uint64_t *ticks, size_t *count, bool *more);
+
+/*
+ * The moments of a window that an ASCII tag names. The window is inside the cover: it starts at 441763210 s or
+ * later, which is 1972-01-01T00:00:00 UTC, and ends at 2145916837 s and 0 ticks or earlier, which is the first
+ * moment after 2025-12-31.
+ *
+ * tag, len: the tag and nothing else. NULL only when len is 0.
+ * from_sec, from_ticks and to_sec, to_ticks: two records, the window's start and its end.
+ * list, room: the seconds are written to the first elements; later ones stay as they were. NULL only when room
+ *             is 0: then nothing is listed, and more tells whether the window has any.
+ * ticks: the tick count of all moments that the tag names is written here, also when nothing is listed.
+ * count: the number listed is written here, room or the number of named moments in the window, whichever is
+ *        less.
+ * more: whether the window has named moments beyond those listed is written here.
+ *
+ * 0             done.
+ *
+ * Refused with the first of these that holds:
+ * HZ_SHORT      len is 0.
+ * HZ_FIELD      the tag has another shape, as with 13 digits of the fraction, with T beside a calendar that
+ *               does not end with its day, or with Z after a calendar; no year has such a month and day, as
+ *               -02-30; the tag's own year, from 0001 to 9999, has no such date, as 2023-366; the hour is over
+ *               23, the minute over 59, or the second over 59 and not 60 as said above.
+ * HZ_RANGE      one of the records is invalid.
+ * HZ_WINDOW     the window's end is before its start.
+ * HZ_UNCOVERED  the window starts before the cover or ends after it, be it empty or not.
+ */
+uint8_t hz_list_ascii(const uint8_t *tag, size_t len,
+                      int64_t from_sec, uint64_t from_ticks, int64_t to_sec, uint64_t to_ticks,
+                      int64_t *list, size_t room, uint64_t *ticks, size_t *count, bool *more);
+
 #ifdef __cplusplus
 }
 #endif

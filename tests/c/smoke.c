@@ -284,6 +284,105 @@ static void walls(void)
     expect("a later byte stays", face[HZ_WALL_ROOM] == 0xEE);
 }
 
+/* One octet wraps every 256 seconds. */
+static void lists_of_counters(void)
+{
+    static const uint8_t tag[] = {0x10, 0x00, 0x00};
+    int64_t list[5] = {-1, -1, -1, -1, -1};
+    uint64_t ticks = 17;
+    size_t count = 18;
+    bool more = true;
+
+    expect("no P octet is refused",
+           hz_list_cuc(NULL, 0, true, 0x10, 0, 0, 0, 0, 0, NULL, 0, &ticks, &count, &more) == HZ_SHORT);
+    expect("CDS is refused", hz_list_cuc(tag, 3, false, 0xC3, 0, 0, 0, 0, 0, list, 5, &ticks, &count, &more) ==
+                                 HZ_IDENTIFICATION);
+    expect("a byte too many is refused",
+           hz_list_cuc(tag, 3, true, 0, 0, 1, HZ_TICKS, 0, 0, list, 5, &ticks, &count, &more) == HZ_FIELD);
+    expect("then an invalid record",
+           hz_list_cuc(tag, 2, true, 0, 0, 1, HZ_TICKS, 0, 0, list, 5, &ticks, &count, &more) == HZ_RANGE);
+    expect("then a window that ends before its start",
+           hz_list_cuc(tag, 2, true, 0, 0, 0, 1, 0, 0, list, 5, &ticks, &count, &more) == HZ_WINDOW);
+    expect("a refusal writes nothing", list[0] == -1 && ticks == 17 && count == 18 && more);
+    expect("0 to 1024", hz_list_cuc(tag, 2, true, 0, 0, 0, 0, 1024, 0, list, 5, &ticks, &count, &more) == 0 &&
+                            ticks == 0 && count == 4 && !more && list[0] == 0 && list[1] == 256 &&
+                            list[2] == 512 && list[3] == 768);
+    expect("a later element stays", list[4] == -1);
+    list[2] = -1;
+    expect("room for 2",
+           hz_list_cuc(tag + 1, 1, false, 0x10, 0, 0, 0, 1024, 0, list, 2, &ticks, &count, &more) == 0 &&
+               count == 2 && more && list[0] == 0 && list[1] == 256 && list[2] == -1);
+    expect("no room at NULL",
+           hz_list_cuc(tag, 2, true, 0, 0, 0, 1, 1024, 0, NULL, 0, &ticks, &count, &more) == 0 && count == 0 &&
+               more);
+}
+
+/* What is named in all covered time: how many, the first and the last. Where there is a refusal, or nothing
+ * named, the list is what it was before. */
+static const struct {
+    const char *tag;
+    uint8_t answer;
+    size_t count;
+    int64_t first, last;
+} tags[] = {
+    {"::60", 0, 27, 457488010, 1861920036},
+    {"::60Z", 0, 27, 457488010, 1861920036},
+    {"-366T23:59:60", 0, 4, 473385611, 1861920036},
+    {"-02-29", 0, 14, 446860810, 2087856037},
+    {"2016-12-31T23:59:60.000", 0, 1, 1861920036, 1861920036},
+    {"2015-12-31T23:59:60", 0, 0, -1, -1},
+    {"1971", 0, 0, -1, -1},
+    {"2026-01-01", 0, 0, -1, -1},
+    {"", HZ_SHORT, 17, -1, -1},
+    {"-02-30", HZ_FIELD, 17, -1, -1},
+    {"2023-366", HZ_FIELD, 17, -1, -1},
+    {":58:60", HZ_FIELD, 17, -1, -1},
+    {"2016-12T00", HZ_FIELD, 17, -1, -1},
+    {"2016Z", HZ_FIELD, 17, -1, -1},
+};
+
+static void lists_of_texts(void)
+{
+    const int64_t first = 441763210, end = 2145916837;
+    const uint8_t *half = (const uint8_t *)"::.5";
+    int64_t list[30];
+    uint64_t ticks = 16;
+    size_t count, i, k;
+    bool more;
+
+    for (i = 0; i < sizeof tags / sizeof *tags; i++) {
+        const uint8_t *tag = (const uint8_t *)tags[i].tag;
+        size_t length = strlen(tags[i].tag);
+
+        for (k = 0; k < 30; k++) {
+            list[k] = -1;
+        }
+        count = 17, more = tags[i].answer != 0;
+        expect(tags[i].tag, hz_list_ascii(tag, length, first, 0, end, 0, list, 30, &ticks, &count, &more) ==
+                                    tags[i].answer &&
+                                count == tags[i].count && more == (tags[i].answer != 0) &&
+                                list[0] == tags[i].first);
+        k = tags[i].answer == 0 ? count : 0;
+        expect("the last one listed", list[k > 0 ? k - 1 : 0] == tags[i].last);
+        expect("a later element stays", list[k] == -1);
+    }
+    ticks = 16, count = 17, more = true;
+    expect("a window past the cover is refused",
+           hz_list_ascii(half, 4, first, 0, end, 1, NULL, 0, &ticks, &count, &more) == HZ_UNCOVERED);
+    expect("before that its end before its start",
+           hz_list_ascii(half, 4, end, 1, first, 0, NULL, 0, &ticks, &count, &more) == HZ_WINDOW);
+    expect("a refusal writes nothing", ticks == 16 && count == 17 && more);
+    expect("the last second but one, and more",
+           hz_list_ascii(half, 4, end - 2, HALF, end, 0, list, 1, &ticks, &count, &more) == 0 &&
+               ticks == HALF && count == 1 && more && list[0] == end - 2);
+    expect("the last second",
+           hz_list_ascii(half, 4, end - 2, HALF + 1, end, 0, list, 1, &ticks, &count, &more) == 0 &&
+               count == 1 && !more && list[0] == end - 1);
+    expect("nothing in an empty window",
+           hz_list_ascii(half, 4, end, 0, end, 0, NULL, 0, &ticks, &count, &more) == 0 && ticks == HALF &&
+               count == 0 && !more);
+}
+
 int main(void)
 {
     differences();
@@ -297,6 +396,8 @@ int main(void)
     reads_of_texts();
     writes_of_texts();
     walls();
+    lists_of_counters();
+    lists_of_texts();
     if (!wrong) {
         printf("smoke: all as known\n");
     }

@@ -44,6 +44,18 @@
 //! assert_eq!(&face[..written], b"1988-01-18T17:20:43.123Z");
 //! # Ok::<(), honigzange::Refusal>(())
 //! ```
+//!
+//! ```
+//! use honigzange::{list_ascii, read_ascii};
+//!
+//! // The leap seconds of four years, by a tag without date, hour and minute.
+//! let (from, to) = (read_ascii(b"2013-01-01T00:00:00")?, read_ascii(b"2017-01-01T00:00:00")?);
+//! let mut leaps = [0; 8];
+//! let listing = list_ascii(b"::60", from, to, &mut leaps)?;
+//! assert_eq!(leaps[..listing.count], [1_814_400_035, 1_861_920_036]);
+//! assert!(!listing.more);
+//! # Ok::<(), honigzange::Refusal>(())
+//! ```
 
 #![no_std]
 #![deny(unsafe_code)]
@@ -57,6 +69,7 @@ pub mod raw;
 mod refusal;
 mod scale;
 mod setting;
+mod tags;
 
 pub use ascii::{read_ascii, write_ascii, write_wall, AsciiSetting, ASCII_ROOM, WALL_ROOM};
 pub use binary::{read_binary, write_binary, BinarySetting, Preamble, BINARY_ROOM};
@@ -67,3 +80,4 @@ pub use leap::{second_of_utc, utc_of_second, Utc};
 pub use refusal::Refusal;
 pub use scale::{difference, shift, Record, Span};
 pub use setting::{write, Setting};
+pub use tags::{list_ascii, list_cuc, Listing};

@@ -72,6 +72,35 @@ mod c {
             room: usize,
             written: *mut usize,
         ) -> u8;
+        pub fn hz_list_cuc(
+            tag: *const u8,
+            len: usize,
+            front: bool,
+            p: u8,
+            epoch: i64,
+            from_sec: i64,
+            from_ticks: u64,
+            to_sec: i64,
+            to_ticks: u64,
+            list: *mut i64,
+            room: usize,
+            ticks: *mut u64,
+            count: *mut usize,
+            more: *mut bool,
+        ) -> u8;
+        pub fn hz_list_ascii(
+            tag: *const u8,
+            len: usize,
+            from_sec: i64,
+            from_ticks: u64,
+            to_sec: i64,
+            to_ticks: u64,
+            list: *mut i64,
+            room: usize,
+            ticks: *mut u64,
+            count: *mut usize,
+            more: *mut bool,
+        ) -> u8;
     }
 }
 
@@ -198,4 +227,58 @@ pub fn write_wall(sec: i64, ticks: u64, out: &mut [u8], written: &mut usize) -> 
     // SAFETY: numbers may hold anything, the bytes are as many as said, and an exclusive reference is a cell
     // apart from them.
     unsafe { c::hz_write_wall(sec, ticks, start, room, written) }
+}
+
+/// The seconds of the moments of a window that a CUC tag names, how many are listed, and whether there are
+/// more.
+#[allow(clippy::too_many_arguments)]
+pub fn list_cuc(
+    tag: &[u8],
+    front: bool,
+    p: u8,
+    epoch: i64,
+    from_sec: i64,
+    from_ticks: u64,
+    to_sec: i64,
+    to_ticks: u64,
+    list: &mut [i64],
+    ticks: &mut u64,
+    count: &mut usize,
+    more: &mut bool,
+) -> u8 {
+    let (bytes, len) = (tag.as_ptr(), tag.len());
+    let (start, room) = (list.as_mut_ptr(), list.len());
+    // SAFETY: numbers may hold anything, the bytes and the list's elements are as many as said, and three
+    // exclusive references are three cells apart from each other and from them.
+    unsafe {
+        c::hz_list_cuc(
+            bytes, len, front, p, epoch, from_sec, from_ticks, to_sec, to_ticks, start, room,
+            ticks, count, more,
+        )
+    }
+}
+
+/// The seconds of the moments of a window that an ASCII tag names, how many are listed, and whether there are
+/// more.
+#[allow(clippy::too_many_arguments)]
+pub fn list_ascii(
+    tag: &[u8],
+    from_sec: i64,
+    from_ticks: u64,
+    to_sec: i64,
+    to_ticks: u64,
+    list: &mut [i64],
+    ticks: &mut u64,
+    count: &mut usize,
+    more: &mut bool,
+) -> u8 {
+    let (bytes, len) = (tag.as_ptr(), tag.len());
+    let (start, room) = (list.as_mut_ptr(), list.len());
+    // SAFETY: numbers may hold anything, the bytes and the list's elements are as many as said, and three
+    // exclusive references are three cells apart from each other and from them.
+    unsafe {
+        c::hz_list_ascii(
+            bytes, len, from_sec, from_ticks, to_sec, to_ticks, start, room, ticks, count, more,
+        )
+    }
 }

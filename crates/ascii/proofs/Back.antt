@@ -1,23 +1,24 @@
 -- A code that was written, read: its shape is right, its layout is the writer's, and its fields are what it was written from.
-use mathlib.Core.Path.{_≡_, refl, sym, _∙_, subst}
-use mathlib.Core.Bool.{Bool, true, false, cond, false≢true}
+use mathlib.Core.Path.{_≡_, refl, _∙_}
+use mathlib.Core.Bool.{Bool, true, false, false≢true}
 use mathlib.Core.List.{List, [], _∷_, _++_, append-nil}
 use Prim.Native.Nat.{ℕ, zero, suc, _+_, _-_, _*_, _/_, _%_, _^_, _<_, _≤_}
 use native.Mathlib.Omega.{arith}
-use lib.Dec.{ltb}
 use lib.ListN.{length, drop, drop-of-length-le}
 use lib.Seq.{drop-append-add}
-use borrow.Author.Tests.{lt-ltb, ltb-true, ltb-false, le-leb}
-use Rattle.base.specs.Outcome.{Outcome, done, need}
+use borrow.Author.Tests.{le-leb}
+use Rattle.base.specs.Outcome.{Outcome, done}
 use Rattle.base.proofs.Bools.{and-true, and-yes}
 use Rattle.octets.specs.Places.{digitValue, decimalOf, digits}
 use Rattle.octets.proofs.Places.{digit-rule, number-append, number-places, places-good}
 use Rattle.calendar.specs.Gregorian.{ordinalOn, dateIn, indexOfDate, indexOfOrdinal}
 use Rattle.calendar.proofs.Promises.{ordinal-at-done, date-at-done, ordinal-at-back, date-at-back, ordinal-fields, date-fields}
+use Rattle.clock.specs.Clock.{clockOf, minuteOf}
+use Rattle.clock.proofs.Laws.{shown, shown-back}
 use Rattle.ascii.specs.declared.Layout.{Layout}
 use Rattle.ascii.specs.Quoted.{bytes}
 use Rattle.ascii.specs.Shapes.{alike, fits, shaped}
-use Rattle.ascii.specs.Ascii.{frontOf, layoutOf, numberAt, dayAt, clockOk, secondOfDay, clockAt, ticksOf, moment, fieldsOf, lead, dayText, minuteOf, clockText, fractionText, zoneText, codeText}
+use Rattle.ascii.specs.Ascii.{frontOf, layoutOf, numberAt, dayAt, clockAt, ticksOf, moment, fieldsOf, lead, dayText, clockText, fractionText, zoneText, codeText}
 use Rattle.ascii.proofs.Shapes.{zeros, dateShape, fractionShape, digits-out, own-shaped}
 use Rattle.ascii.proofs.Texts.{digits-length, day-length}
 
@@ -104,33 +105,6 @@ day-back false n r h =
     three indexOfDate (first-number 4 (t .year) (lead 45 2 (t .month) ++ (lead 45 2 (t .day) ++ r)) (omega arith)) (first-number 2 (t .month) (lead 45 2 (t .day) ++ r) (omega arith)) (first-number 2 (t .day) r (omega arith)) ∙ date-at-back n t e
 
 -- ---- the clock
-record Shown (n m : ℕ) : Type 0 where
-  pub good : clockOk (m / 60) (m % 60) (n - m * 60) ≡ true
-  pub sum : secondOfDay (m / 60) (m % 60) (n - m * 60) ≡ n
-  pub hour : m / 60 < 100
-  pub minute : m % 60 < 100
-  pub second : n - m * 60 < 100
-
-shown : (n : ℕ) → n ≤ 86400 → Shown n (minuteOf n)
-shown n h = go (ltb n 86400) refl
-  where
-    go : (t : Bool) → ltb n 86400 ≡ t → Shown n (cond t (n / 60) 1439)
-    go true e =
-        let l = ltb-true n 86400 e in
-        record {
-          good = rw (lt-ltb (n / 60 / 60) 24 (omega arith), lt-ltb (n / 60 % 60) 60 (omega arith), lt-ltb (n - n / 60 * 60) 60 (omega arith));
-          sum = omega arith;
-          hour = omega arith;
-          minute = omega arith;
-          second = omega arith;
-        }
-    go false e =
-        let z : n ≡ 86400 = omega (arith, ltb-false n 86400 e) in
-        subst (λ (k : ℕ). Shown k 1439) (sym z) (record { good = refl; sum = refl; hour = omega arith; minute = omega arith; second = omega arith })
-
-clock-by : (h m s a b c n : ℕ) → h ≡ a → m ≡ b → s ≡ c → clockOk a b c ≡ true → secondOfDay a b c ≡ n → need (clockOk h m s) 4 (done (secondOfDay h m s)) ≡ done n
-clock-by h m s a b c n p q r g e = rw (p, q, r, g, e)
-
 clock-back : (p q : List ℕ) (n t : ℕ) → n ≤ 86400 → t ≡ length p + 1 → clockAt (p ++ (clockText n ++ q)) t ≡ done n
 unfolding clockAt clockText
 clock-back p q n t h e =
@@ -138,11 +112,11 @@ clock-back p q n t h e =
     let w = shown n h in
     let a = lead 58 2 (m % 60) in
     let b = lead 58 2 (n - m * 60) in
-    clock-by _ _ _ (m / 60) (m % 60) (n - m * 60) n
-    (past-number p (lead 84 2 (m / 60) ++ (a ++ b) ++ q) 1 2 t e ∙ first-number 2 (m / 60) (a ++ (b ++ q)) (w .hour))
-    (past-number p (lead 84 2 (m / 60) ++ (a ++ b) ++ q) 4 2 (t + 3) (omega arith) ∙ first-number 2 (m % 60) (b ++ q) (w .minute))
-    (past-number p (lead 84 2 (m / 60) ++ (a ++ b) ++ q) 7 2 (t + 6) (omega arith) ∙ first-number 2 (n - m * 60) q (w .second))
-    (w .good) (w .sum)
+    three clockOf
+    (past-number p (lead 84 2 (m / 60) ++ (a ++ b) ++ q) 1 2 t e ∙ first-number 2 (m / 60) (a ++ (b ++ q)) (omega (arith, w .hour)))
+    (past-number p (lead 84 2 (m / 60) ++ (a ++ b) ++ q) 4 2 (t + 3) (omega arith) ∙ first-number 2 (m % 60) (b ++ q) (omega (arith, w .minute)))
+    (past-number p (lead 84 2 (m / 60) ++ (a ++ b) ++ q) 7 2 (t + 6) (omega arith) ∙ first-number 2 (n - m * 60) q (omega (arith, w .second)))
+    ∙ shown-back n h
 
 -- ---- the fraction
 part-back : (p z : List ℕ) (n d f t : ℕ) → f < 10 ^ d → t ≡ length p + 10 → numberAt (p ++ (clockText n ++ (fractionText d f ++ z))) t d ≡ f

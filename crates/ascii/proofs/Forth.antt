@@ -1,25 +1,27 @@
 -- A text that reads, written again from what was read: the same bytes.
-use mathlib.Core.Path.{_≡_, refl, sym, ap, _∙_, subst}
-use mathlib.Core.Bool.{Bool, true, false, _&&_, _||_}
+use mathlib.Core.Path.{_≡_, refl, sym, ap, _∙_}
+use mathlib.Core.Bool.{Bool, true, false, _||_}
 use mathlib.Core.List.{List, [], _∷_, _++_, append-assoc}
 use Prim.Native.Nat.{ℕ, zero, suc, _+_, _-_, _*_, _/_, _%_, _^_, _<_, _≤_}
 use native.Mathlib.Numerals.{add-one}
 use native.Mathlib.Omega.{arith}
-use lib.Dec.{ltb, eqb}
+use lib.Dec.{eqb}
 use lib.ListN.{length, getD, drop, length-drop, take-append-drop, drop-of-length-le}
 use lib.Seq.{drop-cons, drop-drop}
-use borrow.Author.Tests.{lt-ltb, ltb-true, eqb-true, ne-eqb}
+use borrow.Author.Tests.{eqb-true, ne-eqb}
 use Rattle.base.specs.Outcome.{done}
 use Rattle.base.proofs.Bools.{and-true}
-use Rattle.base.proofs.Ladders.{need-done, done-is}
+use Rattle.base.proofs.Ladders.{done-is}
 use Rattle.octets.specs.Places.{digitGood, allGood, decimalOf, digits}
 use Rattle.octets.proofs.Places.{digit-rule, places-number, number-lt}
 use Rattle.calendar.specs.Gregorian.{ordinalOn, dateIn}
 use Rattle.calendar.specs.declared.Ordinal.{Ordinal}
 use Rattle.calendar.specs.declared.Date.{Date}
 use Rattle.calendar.proofs.Promises.{ordinal-at-done, date-at-done, index-of-ordinal-back, index-of-date-back}
+use Rattle.clock.specs.Clock.{minuteOf}
+use Rattle.clock.proofs.Laws.{clock-back}
 use Rattle.ascii.specs.declared.Layout.{Layout}
-use Rattle.ascii.specs.Ascii.{frontOf, partSize, bit, numberAt, dayAt, clockOk, secondOfDay, clockAt, lead, dayText, minuteOf, clockText, fractionText, zoneText, codeText}
+use Rattle.ascii.specs.Ascii.{frontOf, partSize, bit, numberAt, dayAt, clockAt, lead, dayText, clockText, fractionText, zoneText, codeText}
 use Rattle.ascii.specs.Inner.{figuresAt, dateFigures, clockFigures, figures, marked, separators, Placed}
 use Rattle.ascii.proofs.Shapes.{Right, lay}
 
@@ -50,31 +52,7 @@ tail-is (suc d) z s at h x f g =
     piece s at 46 (suc d) (omega arith) (rw n at x) f
     ∙ ap (λ (q : List ℕ). lead 46 (suc d) (numberAt s (at + 1) (suc d)) ++ q) (ending z s (at + 1 + suc d) (omega arith) g)
 
--- ---- the fields of the second of the day that a clock shows
-record Shows (h m s n : ℕ) : Type 0 where
-  pub hour : minuteOf n / 60 ≡ h
-  pub minute : minuteOf n % 60 ≡ m
-  pub second : n - minuteOf n * 60 ≡ s
-
-shows : (h m s : ℕ) → clockOk h m s ≡ true → Shows h m s (secondOfDay h m s)
-shows h m s g = go (ltb s 60) refl (ltb-true h 24 (p .0)) (ltb-true m 60 (q .0)) (q .1)
-  where
-    p : (ltb h 24 ≡ true) × (ltb m 60 && (ltb s 60 || (eqb s 60 && (eqb h 23 && eqb m 59))) ≡ true)
-    p = and-true (ltb h 24) _ g
-
-    q : (ltb m 60 ≡ true) × (ltb s 60 || (eqb s 60 && (eqb h 23 && eqb m 59)) ≡ true)
-    q = and-true (ltb m 60) _ (p .1)
-
-    go : (t : Bool) → ltb s 60 ≡ t → h < 24 → m < 60 → t || (eqb s 60 && (eqb h 23 && eqb m 59)) ≡ true → Shows h m s (secondOfDay h m s)
-    go true e a b g =
-        let l = ltb-true s 60 e in
-        let k = lt-ltb (secondOfDay h m s) 86400 (omega arith) in
-        record { hour = rw k (omega arith); minute = rw k (omega arith); second = rw k (omega arith) }
-    go false e a b g =
-        let (x, y) = and-true (eqb s 60) (eqb h 23 && eqb m 59) g in
-        let (u, v) = and-true (eqb h 23) (eqb m 59) y in
-        rw (eqb-true s 60 x, eqb-true h 23 u, eqb-true m 59 v) (record { hour = refl; minute = refl; second = refl })
-
+-- ---- the clock that the fields show
 text-of : (a b c h m s : ℕ) → a ≡ h → b ≡ m → c ≡ s → lead 84 2 a ++ (lead 58 2 b ++ lead 58 2 c) ≡ lead 84 2 h ++ (lead 58 2 m ++ lead 58 2 s)
 text-of a b c h m s p q r = rw (p, q, r)
 
@@ -84,8 +62,7 @@ clock-text s at n e =
     let h = numberAt s at 2 in
     let m = numberAt s (at + 3) 2 in
     let x = numberAt s (at + 6) 2 in
-    let (g, i) = need-done (clockOk h m x) 4 (done (secondOfDay h m x)) n e in
-    let f : Shows h m x n = subst (λ (k : ℕ). Shows h m x k) (done-is (secondOfDay h m x) n i) (shows h m x g) in
+    let f = clock-back h m x n e in
     text-of (minuteOf n / 60) (minuteOf n % 60) (n - minuteOf n * 60) h m x (f .hour) (f .minute) (f .second)
 
 -- ---- the date that the fields name

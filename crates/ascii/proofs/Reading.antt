@@ -22,8 +22,9 @@ use Rattle.calendar.specs.Gregorian.{isDate, isOrdinal, indexOfDate, indexOfOrd
 use Rattle.calendar.proofs.Years.{kind-lt}
 use Rattle.calendar.proofs.Rows.{length-in}
 use Rattle.calendar.proofs.Dates.{GoodDate, GoodOrdinal, good-date, good-ordinal}
+use Rattle.clock.specs.Clock.{clockOk, secondOfDay, clockOf}
 use Rattle.ascii.specs.declared.Layout.{Layout}
-use Rattle.ascii.specs.Ascii.{frontOf, numberAt, dayAt, clockOk, secondOfDay, clockAt, ticksOf, moment, fieldsOf}
+use Rattle.ascii.specs.Ascii.{frontOf, numberAt, dayAt, clockAt, ticksOf, moment, fieldsOf}
 use Rattle.ascii.specs.Inner.{figuresAt, readAs, dateFigures, clockFigures, figures}
 use Rattle.ascii.proofs.Shapes.{down-at}
 
@@ -97,16 +98,26 @@ day-4 false s n e =
     only-4 (isDate y m d) (dayIndex y (dayOfYear y m d)) n e
 
 -- ---- clocks
-clock-by : (a b c : Bool) (h m x : ℕ) → need (clockOk (cond a h 100) (cond b m 100) (cond c x 100)) 4 (done (secondOfDay (cond a h 100) (cond b m 100) (cond c x 100))) ≡ need (a && (b && c)) 4 (need (clockOk h m x) 4 (done (secondOfDay h m x)))
+clock-by : (a b c : Bool) (h m x : ℕ) → clockOf (cond a h 100) (cond b m 100) (cond c x 100) ≡ need (a && (b && c)) 4 (clockOf h m x)
 clock-by true true true h m x = refl
 clock-by true true false h m x = need-no 4 _ (and-false (ltb h 24) _ (and-false (ltb m 60) _ refl))
 clock-by true false c h m x = need-no 4 _ (and-false (ltb h 24) _ refl)
 clock-by false b c h m x = refl
 
-pub clock-read : (s : List ℕ) (at h m x : ℕ) → h ≡ readAs s at 2 → m ≡ readAs s (at + 3) 2 → x ≡ readAs s (at + 6) 2 → need (clockOk h m x) 4 (done (secondOfDay h m x)) ≡ need (clockFigures s at) 4 (clockAt s at)
+pub clock-read : (s : List ℕ) (at h m x : ℕ) → h ≡ readAs s at 2 → m ≡ readAs s (at + 3) 2 → x ≡ readAs s (at + 6) 2 → clockOf h m x ≡ need (clockFigures s at) 4 (clockAt s at)
 unfolding clockFigures clockAt
 clock-read s at h m x p q r =
     rw (p, q, r) (clock-by (figuresAt s at 2) (figuresAt s (at + 3) 2) (figuresAt s (at + 6) 2) (numberAt s at 2) (numberAt s (at + 3) 2) (numberAt s (at + 6) 2))
+
+-- a clock that is refused is 4
+pub clock-4 : (t : Bool) (s : List ℕ) (at n : ℕ) → need t 4 (clockAt s at) ≡ refused n → n ≡ 4
+unfolding clockAt
+clock-4 true s at n e =
+    let h = numberAt s at 2 in
+    let m = numberAt s (at + 3) 2 in
+    let x = numberAt s (at + 6) 2 in
+    only-4 (clockOk h m x) (secondOfDay h m x) n e
+clock-4 false s at n e = sym (refused-is 4 n e)
 
 -- ---- fractions
 -- a second is a whole number of parts of d digits, each a whole number of ticks

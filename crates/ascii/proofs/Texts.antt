@@ -5,9 +5,8 @@ use mathlib.Core.List.{List, _++_, append-assoc}
 use Prim.Native.Nat.{ℕ, zero, suc, _+_, _-_, _*_, _/_, _%_, _<_, _≤_}
 use native.Mathlib.Omega.{arith}
 use lib.ListN.{length, set, length-set, length-append}
-use borrow.Author.Tests.{lt-ltb, le-ltb, ne-eqb, le-leb, lt-leb}
+use borrow.Author.Tests.{ne-eqb, le-leb, lt-leb}
 use Rattle.base.specs.Outcome.{Outcome, done, refused, andThen}
-use Rattle.base.proofs.Bools.{cond-yes, cond-no}
 use Rattle.base.proofs.Ladders.{need-yes, need-no}
 use Rattle.scale.specs.Time.{Time, isRecord}
 use Rattle.octets.specs.Places.{digitOf, digits}
@@ -17,11 +16,12 @@ use Rattle.octets.proofs.Pastes.{paste-none, paste-cons, stored, then}
 use Rattle.calendar.specs.Gregorian.{ordinalOn, dateIn}
 use Rattle.calendar.specs.declared.Ordinal.{Ordinal}
 use Rattle.calendar.specs.declared.Date.{Date}
+use Rattle.clock.specs.Clock.{minuteOf}
 use Rattle.leap.specs.Table.{Table}
 use Rattle.leap.specs.Utc.{readingOf}
 use Rattle.leap.specs.declared.Reading.{Reading}
 use Rattle.ascii.specs.declared.Layout.{Layout}
-use Rattle.ascii.specs.Ascii.{frontOf, partSize, bit, width, lead, dayText, minuteOf, clockText, fractionText, zoneText, codeText, partOf, bytesBy}
+use Rattle.ascii.specs.Ascii.{frontOf, partSize, bit, width, lead, dayText, clockText, fractionText, zoneText, codeText, partOf, bytesBy}
 use Rattle.ascii.proofs.Shapes.{zone-length}
 use Rattle.ascii.proofs.Sizes.{width-of}
 
@@ -77,12 +77,6 @@ put-three old a b c n at t e h p q r =
     rw e (rw (append-assoc y m d) at three)
 
 -- ---- clocks
-pub minute-low : (n : ℕ) → n < 86400 → n / 60 ≡ minuteOf n
-minute-low n h = sym (cond-yes _ _ (lt-ltb n 86400 h))
-
-pub minute-last : (n : ℕ) → 86400 ≤ n → 1439 ≡ minuteOf n
-minute-last n h = sym (cond-no _ _ (le-ltb n 86400 h))
-
 pub put-clock : (old a b c : List ℕ) (at n m : ℕ) → m ≡ minuteOf n → at + 9 ≤ length old → a ≡ pasted old at (lead 84 2 (m / 60)) → b ≡ pasted a (at + 3) (lead 58 2 (m % 60)) → c ≡ pasted b (at + 6) (lead 58 2 (n - m * 60)) → c ≡ pasted old at (clockText n)
 unfolding clockText
 put-clock old a b c at n m e h p q r =

@@ -1,15 +1,16 @@
 -- ASCII time codes A and B (document 01, "The codes"): what reading answers, and what writing answers. The leap second table is a parameter.
 use mathlib.Core.Path.{_≡_}
-use mathlib.Core.Bool.{Bool, true, false, cond, not, _&&_, _||_}
+use mathlib.Core.Bool.{Bool, true, false, cond, not}
 use mathlib.Core.List.{List, [], _∷_, _++_}
 use Prim.Native.Nat.{ℕ, zero, suc, _+_, _-_, _*_, _/_, _%_, _^_}
-use lib.Dec.{ltb, leb, eqb}
+use lib.Dec.{leb, eqb}
 use lib.IntN.{ℤ}
 use lib.ListN.{length, getD, drop}
 use Rattle.base.specs.Outcome.{Outcome, done, need, andThen, given}
 use Rattle.scale.specs.Time.{perSecond, Time, isRecord}
 use Rattle.octets.specs.Places.{decimalOf, digits}
 use Rattle.calendar.specs.Gregorian.{ordinalOn, dateIn, indexOfDate, indexOfOrdinal}
+use Rattle.clock.specs.Clock.{clockOf, minuteOf}
 use Rattle.leap.specs.Table.{Table}
 use Rattle.leap.specs.Builtin.{builtin}
 use Rattle.leap.specs.Utc.{readingOf, secondOf}
@@ -54,18 +55,9 @@ unfoldable pub dayAt : Bool → List ℕ → Outcome ℕ
 dayAt true s = indexOfOrdinal (numberAt s 0 4) (numberAt s 5 3)
 dayAt false s = indexOfDate (numberAt s 0 4) (numberAt s 5 2) (numberAt s 8 2)
 
--- "Second 60 is a good field only at 23:59"
-abbrev pub clockOk : ℕ → ℕ → ℕ → Bool
-clockOk h m s = ltb h 24 && (ltb m 60 && (ltb s 60 || (eqb s 60 && (eqb h 23 && eqb m 59))))
-
-abbrev pub secondOfDay : ℕ → ℕ → ℕ → ℕ
-secondOfDay h m s = h * 3600 + m * 60 + s
-
 -- the second of the day that a clock from a place on shows
 unfoldable pub clockAt : List ℕ → ℕ → Outcome ℕ
-clockAt s at =
-    need (clockOk (numberAt s at 2) (numberAt s (at + 3) 2) (numberAt s (at + 6) 2)) 4
-    (done (secondOfDay (numberAt s at 2) (numberAt s (at + 3) 2) (numberAt s (at + 6) 2)))
+clockAt s at = clockOf (numberAt s at 2) (numberAt s (at + 3) 2) (numberAt s (at + 6) 2)
 
 -- the ticks of a fraction of d digits
 abbrev pub ticksOf : ℕ → ℕ → ℕ
@@ -105,10 +97,6 @@ unfoldable pub dayText : Bool → ℕ → List ℕ
 dayText true n = digits 4 (ordinalOn n .year) ++ lead 45 3 (ordinalOn n .day)
 dayText false n =
     digits 4 (dateIn (ordinalOn n) .year) ++ (lead 45 2 (dateIn (ordinalOn n) .month) ++ lead 45 2 (dateIn (ordinalOn n) .day))
-
--- the minute of the day: a second 60 belongs to the last
-abbrev pub minuteOf : ℕ → ℕ
-minuteOf n = cond (ltb n 86400) (n / 60) 1439
 
 unfoldable pub clockText : ℕ → List ℕ
 clockText n = lead 84 2 (minuteOf n / 60) ++ (lead 58 2 (minuteOf n % 60) ++ lead 58 2 (n - minuteOf n * 60))

@@ -10,8 +10,6 @@ use Rattle.octets.specs.Places.{allGood, digitGood}
 use Rattle.ascii.specs.Ascii.{frontOf, partSize, bit, numberAt}
 use Rattle.ascii.specs.declared.Layout.{Layout}
 use Rattle.ascii.specs.declared.Moment.{Moment}
-use Rattle.ascii.specs.declared.Clock.{Clock}
-use Rattle.ascii.specs.declared.Clock.the-variants as C
 use Rattle.ascii.specs.declared.Found.{Found}
 use Rattle.ascii.specs.declared.Found.the-variants as F
 
@@ -50,10 +48,6 @@ separators l s =
 pub record Placed (l : Layout) (n : ℕ) : Type 0 where
   pub few : l .digits ≤ 12
   pub size : n ≡ frontOf (l .ordinal) + partSize (l .digits) + bit (l .zone)
-
-abbrev pub saysClock : Clock → Outcome ℕ
-saysClock (C.Second n) = done n
-saysClock C.Bad = refused 4
 
 abbrev pub saysFound : Found → Outcome Moment
 saysFound (F.Done m) = done m

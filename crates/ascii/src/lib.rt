@@ -3,6 +3,7 @@ use base::Refusal;
 use calendar::DateAnswer;
 use calendar::IndexAnswer;
 use calendar::OrdinalAnswer;
+use clock::ClockAnswer;
 use leap::ReadingAnswer;
 use leap::SecondAnswer;
 use octets::Counted;
@@ -20,6 +21,7 @@ ghost use Rattle.octets.specs.Places.{digits};
 ghost use Rattle.octets.specs.Stores.{pasted};
 ghost use Rattle.octets.specs.Writes.{roomed, Wrote};
 ghost use Rattle.calendar.specs.Answers.{saysIndex};
+ghost use Rattle.clock.specs.Answers.{saysClock};
 ghost use Rattle.leap.specs.Builtin.{builtin};
 ghost use Rattle.ascii.specs.Ascii.{
   frontOf,
@@ -29,7 +31,6 @@ ghost use Rattle.ascii.specs.Ascii.{
   layoutOf,
   numberAt,
   dayAt,
-  clockOk,
   clockAt,
   ticksOf,
   fieldsOf,
@@ -37,7 +38,6 @@ ghost use Rattle.ascii.specs.Ascii.{
   text,
   lead,
   dayText,
-  minuteOf,
   clockText,
   fractionText,
   zoneText,
@@ -52,7 +52,6 @@ ghost use Rattle.ascii.specs.Inner.{
   figures,
   separators,
   Placed,
-  saysClock,
   saysFound,
 };
 
@@ -188,8 +187,8 @@ fn fields(s: &[u8], l: Layout) -> Found
         IndexAnswer::Done(day) => {
             let clock = clock_at(s, end - 8);
             match clock {
-                Clock::Bad => Found::Bad,
-                Clock::Second(second) => {
+                ClockAnswer::Refused(_) => Found::Bad,
+                ClockAnswer::Done(second) => {
                     let ticks = fraction(s, end + 1, l.digits);
                     if ticks < Record::TICKS {
                         return Found::Done(Moment {
@@ -233,31 +232,15 @@ fn day_at(s: &[u8], ordinal: bool) -> IndexAnswer
     calendar::index_of_date(year, month, day)
 }
 
-// The second of the day that a clock shows, or that a field breaks its rule.
-enum Clock {
-    Second(u64),
-    Bad,
-}
-
-// Reads hh:mm:ss from `at` on.
-fn clock_at(s: &[u8], at: usize) -> Clock
+// The second of the day that hh:mm:ss from `at` on shows.
+fn clock_at(s: &[u8], at: usize) -> ClockAnswer
     requires { ⌜ at + 8 ≤ length (now s) ⌝ }
     ensures { λ r. ⌜ saysClock r ≡ need (clockFigures (now (s .entry)) at) 4 (clockAt (now (s .entry)) at) ⌝ }
 {
     let h = number(s, at, 2);
     let m = number(s, at + 3, 2);
     let sec = number(s, at + 6, 2);
-    if clock_ok(h, m, sec) {
-        return Clock::Second(h * 3600 + m * 60 + sec);
-    }
-    Clock::Bad
-}
-
-// Whether the fields of a clock are in their ranges; second 60 is good only at 23:59.
-fn clock_ok(h: u64, m: u64, s: u64) -> bool
-    ensures { λ r. ⌜ r ≡ clockOk h m s ⌝ }
-{
-    (h < 24) & ((m < 60) & ((s < 60) | ((s == 60) & ((h == 23) & (m == 59)))))
+    clock::second_of_day(h, m, sec)
 }
 
 // The ticks of a fraction, or those of a second where one of its characters is no digit.
@@ -389,17 +372,11 @@ fn put_clock(out: &mut [u8], at: usize, second: u64)
     requires { ⌜ at + 9 ≤ length (now out) ⌝ }
     ensures { λ _. ⌜ now (out .exit) ≡ pasted (now (out .entry)) at (clockText second) ⌝ }
 {
-    let m = minute_of(second);
+    let m = clock::minute_of(second);
+    let sec = second - m * 60;
     put_lead(out, at, 84, 2, m / 60);
     put_lead(out, at + 3, 58, 2, m % 60);
-    put_lead(out, at + 6, 58, 2, second - m * 60);
-}
-
-// The minute of the day: a second 60 belongs to the last.
-fn minute_of(second: u64) -> u64
-    ensures { λ r. ⌜ (r ≡ minuteOf second) × (r * 60 ≤ second) ⌝ }
-{
-    if second < 86400 { second / 60 } else { 1439 }
+    put_lead(out, at + 6, 58, 2, sec);
 }
 
 // Puts a fraction of d digits with its period, and says where it ends.

@@ -3,6 +3,7 @@ use mathlib.Core.Path.{_≡_, refl, sym, ap, _∙_}
 use mathlib.Core.Bool.{cond}
 use Prim.Native.Nat.{ℕ}
 use lib.Dec.{eqb}
+use Rattle.base.specs.Outcome.{Outcome, done, refused}
 use Rattle.base.specs.Refusals.{number}
 use Rattle.base.specs.declared.Refusal.{Refusal}
 use Rattle.base.specs.declared.Refusal.the-variants.{Short, Identification, Unsupported, Field, Uncovered, NoSuchSecond, Range, Room, Window}
@@ -24,3 +25,11 @@ refusal-back NoSuchSecond = refl
 refusal-back Range = refl
 refusal-back Room = refl
 refusal-back Window = refl
+
+-- an answer with a case for the value and one for the refusal, from the outcome that it says
+abbrev pub answer : {A X : Type 0} → (A → X) → (Refusal → X) → Outcome A → X
+answer make refuse (done a) = make a
+answer make refuse (refused n) = refuse (refusalOf n)
+
+pub answer-once : {A X : Type 0} (says : X → Outcome A) (make : A → X) (refuse : Refusal → X) → ((x : X) → answer make refuse (says x) ≡ x) → (o : Outcome A) (a b : X) → says a ≡ o → says b ≡ o → a ≡ b
+answer-once says make refuse e = once says (answer make refuse) e

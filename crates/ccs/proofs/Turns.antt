@@ -1,16 +1,13 @@
 -- Digits and what they name, there and back: the date's, the clock's, and a whole T-field's.
 use mathlib.Core.Path.{_≡_, refl, sym, ap, _∙_}
-use mathlib.Core.Bool.{Bool, true, false, cond, _&&_, _||_}
+use mathlib.Core.Bool.{Bool, true, false}
 use mathlib.Core.List.{List, _++_, append-assoc}
 use Prim.Native.Nat.{ℕ, _+_, _-_, _*_, _/_, _%_, _^_, _<_, _≤_}
 use native.Mathlib.Omega.{arith}
-use lib.Dec.{leb, ltb, eqb}
 use lib.ListN.{length, take, drop, length-append, length-drop}
 use lib.Seq.{take-add, drop-drop, drop-at}
-use borrow.Author.Tests.{le-leb, lt-ltb, le-ltb, leb-true, eqb-true, ltb-true, ltb-false}
 use Rattle.base.specs.Outcome.{Outcome, done, given}
-use Rattle.base.proofs.Bools.{and-true, cond-yes, cond-no}
-use Rattle.base.proofs.Ladders.{need-done, given-done, done-is}
+use Rattle.base.proofs.Ladders.{given-done}
 use Rattle.octets.specs.Places.{bcd, bcdElement}
 use Rattle.octets.specs.Writes.{saysCounted}
 use Rattle.octets.proofs.Places.{length-places, bcd-rule}
@@ -19,8 +16,10 @@ use Rattle.calendar.specs.Gregorian.{indexOfDate, indexOfOrdinal, ordinalAt, da
 use Rattle.calendar.specs.declared.Date.{Date}
 use Rattle.calendar.specs.declared.Ordinal.{Ordinal}
 use Rattle.calendar.proofs.Promises.{ordinal-fields, date-fields, ordinal-at-back, date-at-back, index-of-ordinal-back, index-of-date-back}
-use Rattle.ccs.specs.Ccs.{pairs, clockOk, secondOfDay, ordinalText, monthText, dateText, minuteOf, clockText}
-use Rattle.ccs.proofs.Wholes.{dayIn, clockIn, ordinal-run, month-run, Shown, shown, clockNumber, digitsOf, clock-text}
+use Rattle.clock.specs.Clock.{clockOf, minuteOf}
+use Rattle.clock.proofs.Laws.{Shown, shown, shown-back, clock-back}
+use Rattle.ccs.specs.Ccs.{pairs, ordinalText, monthText, dateText, clockText}
+use Rattle.ccs.proofs.Wholes.{dayIn, clockIn, ordinal-run, month-run, clockNumber, digitsOf, clock-text}
 use Rattle.ccs.proofs.Pairs.{pair-told}
 use Rattle.ccs.proofs.Rungs.{codeText}
 
@@ -35,7 +34,7 @@ pub record Dated (o : Bool) (k : ℕ) (d : List ℕ) : Type 0 where
 two : (f : ℕ → ℕ → Outcome ℕ) {a b c d : ℕ} → a ≡ b → c ≡ d → f a c ≡ f b d
 two f p q = λ i. f (p i) (q i)
 
-three : (f : ℕ → ℕ → ℕ → Outcome ℕ) {a b c d x y : ℕ} → a ≡ b → c ≡ d → x ≡ y → f a c x ≡ f b d y
+three : {B : Type 0} (f : ℕ → ℕ → ℕ → B) {a b c d x y : ℕ} → a ≡ b → c ≡ d → x ≡ y → f a c x ≡ f b d y
 three f p q r = λ i. f (p i) (q i) (r i)
 
 pub date-written : (o : Bool) (k : ℕ) (d : List ℕ) → dateText o k ≡ done d → Dated o k d
@@ -72,14 +71,6 @@ date-read false k n e =
     ap (given monthText) (index-of-date-back r k e .1) ∙ ap done (sym (month-run r (omega arith) (omega arith)) ∙ ap (bcd 4) z)
 
 -- ---- the clock
-ok-by : (n : ℕ) (t : Bool) → ltb n 86400 ≡ t → n ≤ 86400 → (m : ℕ) → m ≡ cond t (n / 60) 1439 → clockOk (m / 60) (m % 60) (n - m * 60) ≡ true
-ok-by n true e h m q =
-    let l = ltb-true n 86400 e in
-    simp (le-leb (m / 60) 23 (omega arith), le-leb (m % 60) 59 (omega arith), le-leb (n - m * 60) 59 (omega arith))
-ok-by n false e h m q =
-    let z : n ≡ 86400 = omega (arith, ltb-false n 86400 e) in
-    rw (z, q)
-
 pub clock-written : (n : ℕ) → n ≤ 86400 → (digitsOf n < 1000000) × (clockIn (digitsOf n) ≡ done n)
 unfolding clockIn
 clock-written n h =
@@ -88,42 +79,7 @@ clock-written n h =
     let a : digitsOf n / 10000 ≡ m / 60 = omega arith in
     let b : digitsOf n / 100 % 100 ≡ m % 60 = omega arith in
     let c : digitsOf n % 100 ≡ n - m * 60 = omega arith in
-    let z : secondOfDay (m / 60) (m % 60) (n - m * 60) ≡ n = omega arith in
-    (omega arith, rw (a, b, c, ok-by n (ltb n 86400) refl h m refl, z))
-
--- what a good clock tells of its second of the day
-record Clock (h m s : ℕ) : Type 0 where
-  pub hour : h ≤ 23
-  pub minute : m ≤ 59
-  pub low : secondOfDay h m s ≤ 86400
-  pub of : minuteOf (secondOfDay h m s) ≡ h * 60 + m
-
-clock-by : (h m s : ℕ) → h ≤ 23 → m ≤ 59 → (t : Bool) → leb s 59 ≡ t → t || (eqb s 60 && eqb h 23 && eqb m 59) ≡ true → Clock h m s
-clock-by h m s a b true e f =
-    let k = leb-true s 59 e in
-    let z : secondOfDay h m s / 60 ≡ h * 60 + m = omega arith in
-    record { hour = a; minute = b; low = omega arith; of = cond-yes _ _ (lt-ltb (secondOfDay h m s) 86400 (omega arith)) ∙ z }
-clock-by h m s a b false e f =
-    let (p, q) = and-true (eqb s 60 && eqb h 23) (eqb m 59) f in
-    let (u, v) = and-true (eqb s 60) (eqb h 23) p in
-    let x : s ≡ 60 = eqb-true s 60 u in
-    let y : h ≡ 23 = eqb-true h 23 v in
-    let w : m ≡ 59 = eqb-true m 59 q in
-    let z : 1439 ≡ h * 60 + m = omega arith in
-    record { hour = a; minute = b; low = omega arith; of = cond-no _ _ (le-ltb (secondOfDay h m s) 86400 (omega arith)) ∙ z }
-
-clock-is : (h m s : ℕ) → clockOk h m s ≡ true → Clock h m s
-clock-is h m s e =
-    let (p, f) = and-true (leb h 23 && leb m 59) (leb s 59 || (eqb s 60 && eqb h 23 && eqb m 59)) e in
-    let (a, b) = and-true (leb h 23) (leb m 59) p in
-    clock-by h m s (leb-true h 23 a) (leb-true m 59 b) (leb s 59) refl f
-
-digits-again : (h m s x k : ℕ) → m ≤ 59 → x ≡ secondOfDay h m s → k ≡ h * 60 + m → clockNumber (k / 60) (k % 60) (x - k * 60) ≡ clockNumber h m s
-digits-again h m s x k l e f =
-    let a : k / 60 ≡ h = omega arith in
-    let b : k % 60 ≡ m = omega arith in
-    let c : x - k * 60 ≡ s = omega arith in
-    rw (a, b, c)
+    (omega arith, three clockOf a b c ∙ shown-back n h)
 
 six : (n : ℕ) → clockNumber (n / 10000) (n / 100 % 100) (n % 100) ≡ n
 six n = omega arith
@@ -134,12 +90,8 @@ clock-read n x e =
     let h = n / 10000 in
     let m = n / 100 % 100 in
     let s = n % 100 in
-    let (g, f) = need-done (clockOk h m s) 4 (done (secondOfDay h m s)) x e in
-    let q : secondOfDay h m s ≡ x = done-is (secondOfDay h m s) x f in
-    let c = clock-is h m s g in
-    let l : x ≤ 86400 = rw q at (c .low) in
-    let k : minuteOf x ≡ h * 60 + m = ap minuteOf (sym q) ∙ c .of in
-    (l, sym (clock-text x l) ∙ ap (bcd 3) (digits-again h m s x (minuteOf x) (c .minute) (sym q) k ∙ six n))
+    let c = clock-back h m s x e in
+    (c .low, sym (clock-text x (c .low)) ∙ ap (bcd 3) (three clockNumber (c .hour) (c .minute) (c .second) ∙ six n))
 
 -- ---- a whole T-field
 pub record Read (s : List ℕ) (at w date clock part : ℕ) : Type 0 where

@@ -1,18 +1,18 @@
 -- The date and the clock, each as one run of pairs, read and written.
 use mathlib.Core.Path.{_≡_, refl, ap, _∙_}
-use mathlib.Core.Bool.{Bool, true, false, cond}
+use mathlib.Core.Bool.{Bool, true, false}
 use mathlib.Core.List.{List, _++_}
 use Prim.Native.Nat.{ℕ, _+_, _-_, _*_, _/_, _%_, _<_, _≤_}
 use native.Mathlib.Omega.{arith}
-use lib.Dec.{ltb}
 use lib.ListN.{length}
-use borrow.Author.Tests.{ltb-true, ltb-false}
-use Rattle.base.specs.Outcome.{Outcome, done, need, andThen}
+use Rattle.base.specs.Outcome.{Outcome, done, andThen}
 use Rattle.octets.specs.Places.{bcd}
 use Rattle.calendar.specs.Gregorian.{indexOfDate, indexOfOrdinal}
 use Rattle.calendar.specs.declared.Date.{Date}
 use Rattle.calendar.specs.declared.Ordinal.{Ordinal}
-use Rattle.ccs.specs.Ccs.{pairs, clockOk, secondOfDay, dayAt, clockAt, ordinalText, monthText, minuteOf, clockText}
+use Rattle.clock.specs.Clock.{clockOf, minuteOf}
+use Rattle.clock.proofs.Laws.{shown}
+use Rattle.ccs.specs.Ccs.{pairs, dayAt, clockAt, ordinalText, monthText, clockText}
 use Rattle.ccs.proofs.Pairs.{split, places-append}
 
 -- ---- reading
@@ -23,7 +23,7 @@ dayIn false n = indexOfDate (n / 10000) (n / 100 % 100) (n % 100)
 
 -- the second of the day that six digits name
 unfoldable pub clockIn : ℕ → Outcome ℕ
-clockIn n = need (clockOk (n / 10000) (n / 100 % 100) (n % 100)) 4 (done (secondOfDay (n / 10000) (n / 100 % 100) (n % 100)))
+clockIn n = clockOf (n / 10000) (n / 100 % 100) (n % 100)
 
 high : (n : ℕ) → n % 10000 / 100 ≡ n / 100 % 100
 high n = omega arith
@@ -52,7 +52,7 @@ module _ (s : List ℕ) (at : ℕ) where
   unfolding clockAt clockIn
   clock-whole l =
       let e : at + 2 ≡ at + 1 + 1 = omega arith in
-      rw e (three s at 1 (λ h m x. need (clockOk h m x) 4 (done (secondOfDay h m x))) (omega arith) l)
+      rw e (three s at 1 clockOf (omega arith) l)
 
   -- what the run gives, the date and the clock give
   module _ (l : at + 4 ≤ length s) (o : Bool) where
@@ -80,20 +80,6 @@ month-run t h k =
     ap (bcd 4) e
     ∙ places-append 2 2 (t .year) (t .month * 100 + t .day) (omega arith)
     ∙ ap (λ (x : List ℕ). bcd 2 (t .year) ++ x) (places-append 1 1 (t .month) (t .day) k)
-
--- a second of the day on the clock
-pub record Shown (n m : ℕ) : Type 0 where
-  pub hour : m / 60 ≤ 23
-  pub minute : m % 60 ≤ 59
-  pub start : m * 60 ≤ n
-  pub second : n - m * 60 ≤ 60
-
-shown-by : (n : ℕ) (t : Bool) → ltb n 86400 ≡ t → n ≤ 86400 → Shown n (cond t (n / 60) 1439)
-shown-by n true e h = let l = ltb-true n 86400 e in record { hour = omega arith; minute = omega arith; start = omega arith; second = omega arith }
-shown-by n false e h = let l = ltb-false n 86400 e in record { hour = omega arith; minute = omega arith; start = omega arith; second = omega arith }
-
-pub shown : (n : ℕ) → n ≤ 86400 → Shown n (minuteOf n)
-shown n h = shown-by n (ltb n 86400) refl h
 
 -- the six digits of a clock
 abbrev pub clockNumber : ℕ → ℕ → ℕ → ℕ

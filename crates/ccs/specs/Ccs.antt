@@ -1,9 +1,9 @@
 -- CCS, the calendar segmented time code (document 01, "The codes"): what reading a T-field answers, and the octets that write one. "All BCD: year (16 bits), date, hour, minute, second, fractions. UTC."
 use mathlib.Core.Path.{_≡_}
-use mathlib.Core.Bool.{Bool, true, false, cond, _&&_, _||_}
+use mathlib.Core.Bool.{Bool, true, false, cond}
 use mathlib.Core.List.{List, _++_}
 use Prim.Native.Nat.{ℕ, _+_, _-_, _*_, _/_, _%_, _^_}
-use lib.Dec.{leb, ltb, eqb}
+use lib.Dec.{leb}
 use lib.IntN.{ℤ}
 use lib.ListN.{length}
 use Rattle.base.specs.Outcome.{Outcome, done, need, andThen, given}
@@ -14,6 +14,7 @@ use Rattle.octets.specs.Writes.{saysCounted}
 use Rattle.calendar.specs.Gregorian.{indexOfDate, indexOfOrdinal, ordinalAt, dateAt}
 use Rattle.calendar.specs.declared.Date.{Date}
 use Rattle.calendar.specs.declared.Ordinal.{Ordinal}
+use Rattle.clock.specs.Clock.{clockOf, minuteOf}
 use Rattle.leap.specs.Table.{Table}
 use Rattle.leap.specs.Utc.{secondOf, readingOf}
 use Rattle.leap.specs.Builtin.{builtin}
@@ -37,21 +38,13 @@ unfoldable pub dayAt : Bool → List ℕ → ℕ → Outcome ℕ
 dayAt true s at = andThen (pairs s at 2) (λ y. andThen (pairs s (at + 2) 2) (λ d. indexOfOrdinal y d))
 dayAt false s at = andThen (pairs s at 2) (λ y. andThen (pairs s (at + 2) 1) (λ m. andThen (pairs s (at + 3) 1) (λ d. indexOfDate y m d)))
 
--- "Second 60 is a good field only at 23:59"
-abbrev pub clockOk : ℕ → ℕ → ℕ → Bool
-clockOk h m s = leb h 23 && leb m 59 && (leb s 59 || (eqb s 60 && eqb h 23 && eqb m 59))
-
--- 23:59:60 is second 86,400
-abbrev pub secondOfDay : ℕ → ℕ → ℕ → ℕ
-secondOfDay h m s = h * 3600 + m * 60 + s
-
 -- hour, minute and second
 unfoldable pub clockAt : List ℕ → ℕ → Outcome ℕ
 clockAt s at =
     andThen (pairs s at 1) (λ h.
     andThen (pairs s (at + 1) 1) (λ m.
     andThen (pairs s (at + 2) 1) (λ x.
-    need (clockOk h m x) 4 (done (secondOfDay h m x)))))
+    clockOf h m x)))
 
 -- w segments hold a fraction of 100 ^ w parts of a second, each of so many ticks
 abbrev pub ticksOf : ℕ → ℕ → ℕ
@@ -92,10 +85,6 @@ monthText t = bcd 2 (t .year) ++ (bcd 1 (t .month) ++ bcd 1 (t .day))
 unfoldable pub dateText : Bool → ℕ → Outcome (List ℕ)
 dateText true n = given ordinalText (ordinalAt n)
 dateText false n = given monthText (dateAt n)
-
--- the minute of the day: second 86,400 belongs to 23:59, as its second 60
-abbrev pub minuteOf : ℕ → ℕ
-minuteOf n = cond (ltb n 86400) (n / 60) 1439
 
 unfoldable pub clockText : ℕ → List ℕ
 clockText n = bcd 1 (minuteOf n / 60) ++ (bcd 1 (minuteOf n % 60) ++ bcd 1 (n - minuteOf n * 60))

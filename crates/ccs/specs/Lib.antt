@@ -1,2 +1,1 @@
 pub mod Ccs
-pub mod Inner

@@ -3,6 +3,7 @@ use base::Refusal;
 use calendar::DateAnswer;
 use calendar::IndexAnswer;
 use calendar::OrdinalAnswer;
+use clock::ClockAnswer;
 use leap::ReadingAnswer;
 use leap::SecondAnswer;
 use octets::Counted;
@@ -17,22 +18,16 @@ ghost use Rattle.base.specs.Outcome.{andThen, given};
 ghost use Rattle.scale.specs.Time.{perSecond};
 ghost use Rattle.scale.specs.Answers.{recorded, saysRecord};
 ghost use Rattle.calendar.specs.Answers.{saysIndex};
+ghost use Rattle.clock.specs.Answers.{saysClock};
 ghost use Rattle.octets.specs.Places.{bcd};
 ghost use Rattle.octets.specs.Writes.{roomed, Wrote};
 ghost use Rattle.leap.specs.Builtin.{builtin};
-ghost use Rattle.ccs.specs.Ccs.{width, pairs, clockOk, dayAt, clockAt, timeOf, field, minuteOf, dateText, clockText, bytesOf};
-ghost use Rattle.ccs.specs.Inner.{saysClock};
+ghost use Rattle.ccs.specs.Ccs.{width, pairs, dayAt, clockAt, timeOf, field, dateText, clockText, bytesOf};
 
 // How a T-field is laid out: by the day of the year or by month and day, and its extra segments, 0 to 6.
 pub struct Layout {
     pub ordinal: bool,
     pub segments: usize,
-}
-
-// A second of a day; 86,400 is 23:59:60.
-enum ClockAnswer {
-    Done(u64),
-    Refused(Refusal),
 }
 
 // How many octets a T-field has; 0 for a layout that there is not.
@@ -143,23 +138,8 @@ fn clock_at(s: &[u8], at: usize) -> ClockAnswer
     match number {
         Counted::Bad => ClockAnswer::Refused(Refusal::Field),
         Counted::Out => ClockAnswer::Refused(Refusal::Short),
-        Counted::Done(n) => {
-            let hour = n / 10000;
-            let minute = n / 100 % 100;
-            let second = n % 100;
-            if good_clock(hour, minute, second) {
-                return ClockAnswer::Done(hour * 3600 + minute * 60 + second);
-            }
-            ClockAnswer::Refused(Refusal::Field)
-        }
+        Counted::Done(n) => clock::second_of_day(n / 10000, n / 100 % 100, n % 100),
     }
-}
-
-fn good_clock(hour: u64, minute: u64, second: u64) -> bool
-    ensures { λ r. ⌜ r ≡ clockOk hour minute second ⌝ }
-{
-    let last = (second == 60) & (hour == 23) & (minute == 59);
-    (hour <= 23) & (minute <= 59) & ((second <= 59) | last)
 }
 
 // Writes a record as a T-field from `at` on, or a refusal leaves all.
@@ -209,19 +189,12 @@ fn date_digits(ordinal: bool, day: u64) -> IndexAnswer
     }
 }
 
-// The minute of the day that a second of it belongs to.
-fn minute_of(second: u64) -> u64
-    ensures { λ r. ⌜ r ≡ minuteOf second ⌝ }
-{
-    if second < 86400 { second / 60 } else { 1439 }
-}
-
 // The six digits of a second of a day.
 fn clock_digits(second: u64) -> u64
     requires { ⌜ second ≤ 86400 ⌝ }
     ensures { λ r. ⌜ bcd 3 r ≡ clockText second ⌝ }
 {
-    let minute = minute_of(second);
+    let minute = clock::minute_of(second);
     minute / 60 * 10000 + minute % 60 * 100 + (second - minute * 60)
 }
 

@@ -11,7 +11,6 @@ use scale::Record;
 use scale::RecordAnswer;
 ghost use mathlib.Core.Path.{_≡_};
 ghost use Prim.Native.Nat.{_+_, _≤_, _<_, _^_};
-ghost use lib.Dec.{leb};
 ghost use lib.ListN.{length};
 ghost use Rattle.base.specs.Outcome.{andThen};
 ghost use Rattle.scale.specs.Time.{perSecond};
@@ -48,7 +47,7 @@ pub fn read(s: &[u8], at: usize, l: Layout) -> RecordAnswer
     let part = l.part;
     let w = day + 4 + part;
     let len = s.len();
-    if !fits(len, at, w) {
+    if !octets::fits(len, at, w) {
         return RecordAnswer::Refused(Refusal::Short);
     }
     let d = number(s, at, day);
@@ -86,16 +85,6 @@ fn is_layout(l: Layout) -> bool
     let d = (day == 2) | (day == 3);
     let p = (part == 0) | (part == 2) | (part == 4);
     e & d & p
-}
-
-// Whether w elements from `at` on lie within a length.
-fn fits(len: usize, at: usize, w: usize) -> bool
-    ensures { λ r. ⌜ r ≡ leb (at + w) len ⌝ }
-{
-    if len < at {
-        return false;
-    }
-    w <= len - at
 }
 
 // The number in w octets that are there: a slice's bytes are octets, so the other answers don't come.
@@ -199,7 +188,7 @@ fn store(l: Layout, d: u64, m: u64, p: u64, out: &mut [u8], at: usize) -> Writte
     let part = l.part;
     let w = day + 4 + part;
     let len = out.len();
-    if !fits(len, at, w) {
+    if !octets::fits(len, at, w) {
         return Written::Refused(Refusal::Room);
     }
     let end = at + w;

@@ -41,6 +41,11 @@ good-is base period from to e =
       ends = leb-true _ _ (d .1);
     }
 
+pub good-so : (base period from to : ℕ) → Good base period from to → inReach base period from to ≡ true
+unfolding inReach
+good-so base period from to g =
+    rw (le-leb 1 period (g .some), le-leb period (2 ^ 32) (g .short), le-leb base (2 ^ 43) (g .based), le-leb from (2 ^ 43) (g .starts), le-leb to (2 ^ 43) (g .ends))
+
 module _ (base period : ℕ) where
   early : {x : ℕ} → x < base → names base period x ≡ false
   unfolding names

@@ -2,10 +2,11 @@
 use mathlib.Core.Bool.{Bool, _&&_}
 use mathlib.Core.List.{List, map}
 use Prim.Native.Nat.{ℕ, _+_, _-_, _*_, _/_, _%_, _^_}
-use lib.IntN.{ℤ, subℕ}
+use lib.IntN.{ℤ}
 use lib.Dec.{leb, eqb}
 use Rattle.base.specs.Outcome.{Outcome, done, need}
 use Rattle.window.specs.Window.{Named, namedIn}
+use Rattle.window.specs.Seconds.{loweredBy}
 
 -- base + k × period for every k from 0
 unfoldable pub names : ℕ → ℕ → ℕ → Bool
@@ -15,10 +16,6 @@ names base period x = leb base x && eqb ((x - base) % period) 0
 unfoldable pub countBelow : ℕ → ℕ → ℕ → ℕ
 countBelow base period x = (x - base + (period - 1)) / period
 
--- a raised second as a signed one
-unfoldable pub signed : ℕ → ℤ
-signed x = subℕ x (2 ^ 41)
-
 -- a period from 1 to 2^32, and seconds that a record's window can have
 unfoldable pub inReach : ℕ → ℕ → ℕ → ℕ → Bool
 inReach base period from to =
@@ -27,4 +24,4 @@ inReach base period from to =
 -- all that is named from `from` on and before `to`; numbers out of reach are 7
 unfoldable pub listOf : ℕ → ℕ → ℕ → ℕ → ℕ → Outcome (Named ℤ)
 listOf base period from to k =
-    need (inReach base period from to) 7 (done (record { ticks = k; all = map signed (namedIn (names base period) from to) }))
+    need (inReach base period from to) 7 (done (record { ticks = k; all = map (loweredBy (2 ^ 41)) (namedIn (names base period) from to) }))

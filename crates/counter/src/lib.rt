@@ -7,7 +7,8 @@ ghost use mathlib.Core.List.{map};
 ghost use Prim.Native.Nat.{_+_, _*_, _^_, _≤_, _<_};
 ghost use Rattle.base.specs.Outcome.{done};
 ghost use Rattle.window.specs.Window.{namedIn, Lists};
-ghost use Rattle.counter.specs.Counter.{names, countBelow, inReach, listOf, signed};
+ghost use Rattle.window.specs.Seconds.{loweredBy};
+ghost use Rattle.counter.specs.Counter.{names, countBelow, inReach, listOf};
 
 // Lists base + k * period, for every k from 0, from `from` on and before `to`.
 pub fn list(base: u64, period: u64, from: u64, to: u64, ticks: u64, out: &mut [i64]) -> Listing
@@ -30,7 +31,7 @@ fn in_reach(base: u64, period: u64, from: u64, to: u64) -> bool
 
 fn run(base: u64, period: u64, from: u64, to: u64, ticks: u64, out: &mut [i64]) -> Listing
     requires { ⌜ (0 < period) × (period ≤ 2 ^ 32) × (base ≤ 2 ^ 43) × (from ≤ 2 ^ 43) × (to ≤ 2 ^ 43) ⌝ }
-    ensures { λ r. ⌜ Lists (done (record { ticks = ticks; all = map signed (namedIn (names base period) from to) })) (now (out .entry)) (now (out .exit)) r ⌝ }
+    ensures { λ r. ⌜ Lists (done (record { ticks = ticks; all = map (loweredBy (2 ^ 41)) (namedIn (names base period) from to) })) (now (out .entry)) (now (out .exit)) r ⌝ }
 {
     let mut at = first(base, period, from);
     let mut n: usize = 0;

@@ -10,6 +10,7 @@ use Rattle.calendar.specs.declared.Ordinal.{Ordinal}
 use Rattle.leap.specs.declared.Utc.{Utc}
 use Rattle.codes.specs.Reading.{Scanned}
 use Rattle.ascii.specs.declared.Layout.{Layout}
+use Rattle.window.specs.Window.{Listed}
 
 abbrev pub itself : ℤ → ℤ
 itself z = z
@@ -61,3 +62,12 @@ lengthOf l = length l
 
 abbrev pub asciiLayout : Bool → ℕ → Bool → Layout
 asciiLayout b d z = record { ordinal = b; digits = d; zone = z }
+
+abbrev pub listedTicks : Listed → ℕ
+listedTicks x = x .ticks
+
+abbrev pub listedCount : Listed → ℕ
+listedCount x = x .count
+
+abbrev pub listedMore : Listed → Bool
+listedMore x = x .more

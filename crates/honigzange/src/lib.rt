@@ -2,5 +2,6 @@
 mod binaries;
 mod calendars;
 mod leaps;
+mod listings;
 mod scales;
 mod texts;

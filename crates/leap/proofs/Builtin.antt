@@ -1,6 +1,6 @@
 -- The built-in table: what is computed once over the whole table, and carried to each row by one law.
 use Prim.Native.Nat.{ℕ, zero, suc, _+_, _≤_, _<_}
-use mathlib.Core.Path.{_≡_, refl, sym, _∙_}
+use mathlib.Core.Path.{_≡_, refl, sym, ap, _∙_}
 use mathlib.Core.Bool.{Bool, true, false, _&&_}
 use mathlib.Core.List.{List, [], _∷_, _++_, map}
 use native.Mathlib.Nat.{le-of-suc-le-suc, not-suc-le-zero}
@@ -89,6 +89,10 @@ small-is r e =
 pub row-small : (i : ℕ) → i < 28 → Small (rowAt builtin i)
 unfolding builtin
 row-small i h = small-is (rowAt builtin i) (pass-at small leaps noRow refl i h)
+
+-- the numbers that are read of a row
+pub row-read : (i : ℕ) → i < 28 → (getD (getD published i []) 0 0 + 714779 ≡ rowAt builtin i .day) × (getD (getD published i []) 1 0 + 64 ≡ rowAt builtin i .offset) × Small (rowAt builtin i)
+row-read i h = (sym (ap (λ (x : Row). x .day) (row-is i h)), sym (ap (λ (x : Row). x .offset) (row-is i h)), row-small i h)
 
 pub end-small : (i : ℕ) → i < 28 → Small (endAt builtin i)
 unfolding builtin

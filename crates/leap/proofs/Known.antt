@@ -6,7 +6,7 @@ use mathlib.Core.List.{List, [], _∷_, map}
 use lib.IntN.{ℤ, pos, negsuc}
 use Rattle.base.specs.Outcome.{Outcome, done, refused}
 use Rattle.leap.specs.declared.Utc.{Utc}
-use Rattle.leap.specs.Table.{Table, good, offset, start, dayLength, dayHolding, covers, coversSecond, secondAt, readingAt}
+use Rattle.leap.specs.Table.{Table, good, offset, start, dayLength, dayHolding, covers, coversSecond, secondAt, readingAt, dayAt}
 use Rattle.leap.specs.Builtin.{rowOf, builtin}
 use Rattle.leap.specs.Utc.{raisedBy, readingOf, secondOf, utcOfSecond, secondOfUtc}
 
@@ -25,6 +25,11 @@ at t d x = secondOfUtc t d x
 there : (at builtin (pos 21549) 86400 ≡ done (pos 1861920036)) × (at builtin (pos 21550) 0 ≡ done (pos 1861920037)) × (at builtin (pos 24837) 86401 ≡ refused 4) × (at builtin (pos 24837) 86400 ≡ refused 5) × (at builtin (negsuc 0) 0 ≡ refused 5) × (at builtin (pos 24836) 86400 ≡ refused 6)
 unfolding secondOfUtc secondOf raisedBy secondAt covers dayLength start offset builtin
 there = (refl, refl, refl, refl, refl, refl)
+
+-- the day of an inserted second, the next one, the last covered one, and one past it
+days : map (dayAt builtin) (736328 ∷ 736329 ∷ 739615 ∷ 739616 ∷ []) ≡ done (record { start = 63618739300; length = 86401 }) ∷ done (record { start = 63618825701; length = 86400 }) ∷ done (record { start = 63902736101; length = 86400 }) ∷ refused 5 ∷ []
+unfolding dayAt covers dayLength start offset builtin
+days = refl
 
 -- from offset 0 a second is removed at the end of day 0, before 1958 one is inserted: the day is a second short, its 86,399 is 6, and the offset is -1
 unfoldable removed : Table

@@ -1,4 +1,4 @@
--- The rungs of a second's and a reading's ladder, one law for each.
+-- The rungs of a second's, a reading's and a day's ladder, one law for each.
 use Prim.Native.Nat.{ℕ, _+_, _-_, _*_, _≤_, _<_}
 use mathlib.Core.Path.{_≡_, ap, _∙_}
 use mathlib.Core.Bool.{true, false}
@@ -6,7 +6,7 @@ use lib.Dec.{leb, ltb}
 use borrow.Author.Tests.{le-leb, lt-leb, lt-ltb, le-ltb}
 use Rattle.base.specs.Outcome.{done, refused}
 use Rattle.base.proofs.Ladders.{need-yes, need-no}
-use Rattle.leap.specs.Table.{Table, offset, start, dayLength, dayHolding, covers, coversSecond, secondAt, reading, readingAt}
+use Rattle.leap.specs.Table.{Table, offset, start, dayLength, dayHolding, covers, coversSecond, secondAt, reading, readingAt, dayOn, dayAt}
 
 module _ (t : Table) (d x : ℕ) where
   pub second-over : 86400 < x → secondAt t d x ≡ refused 4
@@ -34,3 +34,12 @@ module _ (t : Table) (s : ℕ) where
   pub reading-done : coversSecond t s ≡ true → readingAt t s ≡ done (reading t (dayHolding t s) (s - start t (dayHolding t s)))
   unfolding readingAt
   reading-done c = need-yes 5 _ c
+
+module _ (t : Table) (d : ℕ) where
+  pub day-uncovered : covers t d ≡ false → dayAt t d ≡ refused 5
+  unfolding dayAt
+  day-uncovered c = need-no 5 _ c
+
+  pub day-done : covers t d ≡ true → dayAt t d ≡ done (dayOn t d)
+  unfolding dayAt
+  day-done c = need-yes 5 _ c

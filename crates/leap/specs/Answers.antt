@@ -5,10 +5,12 @@ use Rattle.base.specs.Outcome.{Outcome, done, refused}
 use Rattle.base.specs.Refusals.{number}
 use Rattle.leap.specs.declared.Reading.{Reading}
 use Rattle.leap.specs.declared.Utc.{Utc}
+use Rattle.leap.specs.declared.Day.{Day}
 use Rattle.leap.specs.declared.RaisedAnswer as A
 use Rattle.leap.specs.declared.ReadingAnswer as R
 use Rattle.leap.specs.declared.SecondAnswer as S
 use Rattle.leap.specs.declared.UtcAnswer as U
+use Rattle.leap.specs.declared.DayAnswer as D
 
 abbrev pub saysRaised : A.RaisedAnswer → Outcome ℕ
 saysRaised (A.the-variants.Done s) = done s
@@ -25,3 +27,7 @@ saysSecond (S.the-variants.Refused n) = refused (number n)
 abbrev pub saysUtc : U.UtcAnswer → Outcome Utc
 saysUtc (U.the-variants.Done u) = done u
 saysUtc (U.the-variants.Refused n) = refused (number n)
+
+abbrev pub saysDay : D.DayAnswer → Outcome Day
+saysDay (D.the-variants.Done d) = done d
+saysDay (D.the-variants.Refused n) = refused (number n)

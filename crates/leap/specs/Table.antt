@@ -6,6 +6,7 @@ use lib.Dec.{ltb, leb, eqb}
 use Rattle.base.specs.Outcome.{Outcome, done, need}
 use Rattle.leap.specs.declared.Row.{Row}
 use Rattle.leap.specs.declared.Reading.{Reading}
+use Rattle.leap.specs.declared.Day.{Day}
 
 -- the first row, the later rows, and the last covered day
 pub record Table : Type 0 where
@@ -70,3 +71,10 @@ reading t d x = record { day = d; second = x; offset = offset t d }
 -- the UTC reading of a TAI second; outside the cover 5
 unfoldable pub readingAt : Table → ℕ → Outcome Reading
 readingAt t s = need (coversSecond t s) 5 (done (reading t (dayHolding t s) (s - start t (dayHolding t s))))
+
+-- the TAI second in which a day begins, and how many seconds it has; a day outside the table is 5
+abbrev pub dayOn : Table → ℕ → Day
+dayOn t d = record { start = start t d; length = dayLength t d }
+
+unfoldable pub dayAt : Table → ℕ → Outcome Day
+dayAt t d = need (covers t d) 5 (done (dayOn t d))

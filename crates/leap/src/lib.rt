@@ -5,9 +5,9 @@ use base::Refusal;
 use base::Seat;
 ghost use mathlib.Core.Path.{_≡_};
 ghost use Prim.Native.Nat.{_+_, _-_, _/_, _≤_, _<_, min};
-ghost use Rattle.leap.specs.Table.{start, dayLength, dayHolding, reading, secondAt, readingAt};
+ghost use Rattle.leap.specs.Table.{start, dayLength, dayHolding, reading, secondAt, readingAt, dayOn, dayAt};
 ghost use Rattle.leap.specs.Utc.{readingOf, secondOf, utcOfSecond, secondOfUtc};
-ghost use Rattle.leap.specs.Answers.{saysRaised, saysReading, saysSecond, saysUtc};
+ghost use Rattle.leap.specs.Answers.{saysRaised, saysReading, saysSecond, saysUtc, saysDay};
 ghost use Rattle.leap.specs.Builtin.{builtin};
 ghost use Rattle.leap.specs.Inner.{rowAt, endAt, Small, OnDay, InSecond};
 
@@ -31,6 +31,12 @@ pub struct Utc {
     pub offset: i64,
 }
 
+// The raised TAI second in which a day begins, and how many seconds the day has.
+pub struct Day {
+    pub start: u64,
+    pub length: u64,
+}
+
 pub enum ReadingAnswer {
     Done(Reading),
     Refused(Refusal),
@@ -49,6 +55,11 @@ pub enum RaisedAnswer {
 
 pub enum SecondAnswer {
     Done(i64),
+    Refused(Refusal),
+}
+
+pub enum DayAnswer {
+    Done(Day),
     Refused(Refusal),
 }
 
@@ -168,6 +179,19 @@ pub fn reading_at(s: u64) -> ReadingAnswer
     ReadingAnswer::Done(locate(s))
 }
 
+// A covered day, by its index.
+pub fn day_at(day: u64) -> DayAnswer
+    ensures { λ r. ⌜ saysDay r ≡ dayAt builtin day ⌝ }
+{
+    if day < 719892 {
+        return DayAnswer::Refused(Refusal::Uncovered);
+    }
+    if 739615 < day {
+        return DayAnswer::Refused(Refusal::Uncovered);
+    }
+    DayAnswer::Done(day_in_row(day, row_on_day(day)))
+}
+
 // Row i.
 fn row_at(i: usize) -> Row
     requires { ⌜ i < 28 ⌝ }
@@ -237,6 +261,26 @@ fn length_of(day: u64, i: usize) -> u64
         return 86400;
     }
     86400 + end.offset - row.offset
+}
+
+// A covered day, on which row i is in force. It is an ordinary one, unless the next row begins where it ends.
+fn day_in_row(day: u64, i: usize) -> Day
+    requires { ⌜ OnDay builtin day i ⌝ }
+    ensures { λ r. ⌜ r ≡ dayOn builtin day ⌝ }
+{
+    let rows = LEAPS;
+    let offset = rows[i][1] as u64 + 64;
+    let start = day * 86400 + offset;
+    if i < 27 {
+        let next = rows[i + 1][0] as u64 + 714779;
+        if day + 1 == next {
+            let after = rows[i + 1][1] as u64 + 64;
+            let length = 86400 + after - offset;
+            return Day { start, length };
+        }
+    }
+    let length = 86400;
+    Day { start, length }
 }
 
 // The reading of a covered TAI second.

@@ -1,4 +1,4 @@
--- Two answers that meet a contract are one. Reading and the powers promise an equation `r ≡ ..`, which is this already.
+-- Two answers that meet a contract are one. Reading, the powers and `fits` promise an equation `r ≡ ..`, which is this already.
 use mathlib.Core.Path.{_≡_, sym, _∙_}
 use mathlib.Core.Bool.{Bool}
 use mathlib.Core.List.{List}

@@ -158,7 +158,7 @@ fn held(len: usize, at: usize, w: usize, widest: usize) -> bool
 }
 
 // Whether w elements from `at` on lie within a length.
-fn fits(len: usize, at: usize, w: usize) -> bool
+pub fn fits(len: usize, at: usize, w: usize) -> bool
     ensures { λ r. ⌜ r ≡ leb (at + w) len ⌝ }
 {
     if len < at {

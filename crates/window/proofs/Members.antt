@@ -19,7 +19,7 @@ module _ (p : ℕ → Bool) where
   pub record Right (a b : ℕ) (l : List ℕ) : Type 0 where
     pub named : (x : ℕ) → Among x l → (a ≤ x) × (x < b) × (p x ≡ true)
     pub all : (x : ℕ) → a ≤ x → x < b → p x ≡ true → Among x l
-    pub ascends : Ascending l
+    pub ascends : Ascending _<_ l
 
   right-none : (a b : ℕ) → b ≤ a → Right a b []
   right-none a b h = record { named = λ x i. no-one i refl; all = λ x l u t. absurd (omega arith); ascends = none }

@@ -2,6 +2,7 @@
 //! before it, added one by one.
 
 use crate::calendar;
+use std::ops::Range;
 use std::sync::LazyLock;
 
 const BAD_SECOND: u8 = 4;
@@ -53,6 +54,18 @@ struct Day {
     begins: i64,
     length: i64,
     offset: i64,
+}
+
+/// The covered TAI seconds.
+pub fn cover() -> Range<i64> {
+    let (first, last) = (&DAYS[0], &DAYS[DAYS.len() - 1]);
+    first.begins..last.begins + last.length
+}
+
+/// The numbers of the covered days.
+pub fn days() -> Range<i64> {
+    let first = DAYS[0].number;
+    first..first + DAYS.len() as i64
 }
 
 /// The day, second of day and TAI minus UTC of a TAI second.

@@ -4,12 +4,15 @@
 #![forbid(unsafe_code)]
 
 pub mod ascii;
+pub mod ascii_tag;
 pub mod binary;
 pub mod calendar;
 mod ccs;
 mod cds;
 mod cuc;
+pub mod cuc_tag;
 pub mod leap;
+pub mod listing;
 mod octets;
 pub mod program;
 pub mod rng;

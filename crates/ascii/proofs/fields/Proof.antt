@@ -4,13 +4,14 @@ use mathlib.Core.List.{List}
 use Prim.Native.Nat.{ℕ, _+_, _-_}
 use native.Mathlib.Omega.{arith}
 use borrow.Author.Needs.{needs}
-use Rattle.base.specs.Outcome.{done, need}
+use Rattle.base.specs.Outcome.{done, refused, need}
 use Rattle.calendar.specs.Answers.{saysIndex}
+use Rattle.clock.specs.Answers.{saysClock}
 use Rattle.ascii.specs.declared.Layout.{Layout}
 use Rattle.ascii.specs.Ascii.{frontOf, dayAt, clockAt}
-use Rattle.ascii.specs.Inner.{dateFigures, clockFigures, saysClock}
+use Rattle.ascii.specs.Inner.{dateFigures, clockFigures}
 use Rattle.ascii.proofs.Sizes.{part-some}
-use Rattle.ascii.proofs.Reading.{ticksAs, bad-date, bad-clock, bad-fraction, good-fields}
+use Rattle.ascii.proofs.Reading.{ticksAs, clock-4, bad-date, bad-clock, bad-fraction, good-fields}
 use Rattle.ascii.proofs.fields.Statement.{statement}
 use Rattle.ascii.proofs.fields.Tie as tie
 
@@ -84,7 +85,8 @@ returns-3 c =
     let k = c .before .before in
     let s = slice k in
     let l = own k in
-    sym (bad-clock l s _ (day-is (k .before .before)) (sym (clocked k) ∙ ap saysClock (c .enum-told2 .given .1)))
+    let e = sym (clocked k) ∙ ap saysClock (c .enum-told2 .given .1) in
+    sym (bad-clock l s _ (day-is (k .before .before)) (e ∙ ap refused (clock-4 (clockFigures s (frontOf (l .ordinal) - 8)) s (frontOf (l .ordinal) - 8) _ e)))
 
 returns-4 : tie.Need-returns-4
 returns-4 c =

@@ -1,7 +1,8 @@
 -- `ccs::clock_digits` meets its contract.
 use native.Mathlib.Omega.{arith}
 use borrow.Author.Needs.{needs}
-use Rattle.ccs.proofs.Wholes.{Shown, shown, clock-text}
+use Rattle.clock.proofs.Laws.{Shown, shown}
+use Rattle.ccs.proofs.Wholes.{clock-text}
 use Rattle.ccs.proofs.clock_digits.Statement.{statement}
 use Rattle.ccs.proofs.clock_digits.Tie as tie
 

@@ -1,7 +1,7 @@
 -- `ccs::in_day` meets its contract.
 use mathlib.Core.Path.{sym, ap, _∙_}
 use borrow.Author.Needs.{needs}
-use Rattle.ccs.specs.Inner.{saysClock}
+use Rattle.clock.specs.Answers.{saysClock}
 use Rattle.ccs.proofs.in_day.Statement.{statement}
 use Rattle.ccs.proofs.in_day.Tie as tie
 

@@ -10,16 +10,17 @@ use mir.Syntax.{w64}
 use mir.Val.{toZ, ofZ}
 use Rattle.base.proofs.Signed.{same, less}
 use Rattle.window.specs.Window.{namedIn}
+use Rattle.window.specs.Seconds.{loweredBy}
 use Rattle.window.proofs.Moments.{empty}
 use Rattle.window.proofs.Room.{Filling, fill-start, fill-more, fill-full, fill-done}
-use Rattle.counter.specs.Counter.{names, countBelow, signed}
+use Rattle.counter.specs.Counter.{names, countBelow}
 use Rattle.counter.proofs.Laws.{from-first, named-at, next-one, again}
 use Rattle.counter.proofs.run.Statement.{statement}
 use Rattle.counter.proofs.run.Tie as tie
 
 abbrev Inv-loop : tie.InvT-loop
 Inv-loop base period from to ticks out₀ at₀ n₀ out at n =
-    Filling (map signed (namedIn (names base period) from to)) (map signed (namedIn (names base period) at to)) n out₀ out
+    Filling (map (loweredBy (2 ^ 41)) (namedIn (names base period) from to)) (map (loweredBy (2 ^ 41)) (namedIn (names base period) at to)) n out₀ out
     × (names base period at ≡ true)
 
 abbrev μ-loop : tie.MeasureT-loop
@@ -32,7 +33,7 @@ loop-holds : tie.Need-loop-holds Inv-loop μ-loop
 loop-holds c =
     let a = c .before .args in
     let e = c .first .ensures in
-    rw e (fill-start (a .out .now) (ap (map signed) (from-first (a .base) (a .period) (omega arith) (a .from) (a .to))), named-at (a .base) (a .period) (countBelow (a .base) (a .period) (a .from)))
+    rw e (fill-start (a .out .now) (ap (map (loweredBy (2 ^ 41))) (from-first (a .base) (a .period) (omega arith) (a .from) (a .to))), named-at (a .base) (a .period) (countBelow (a .base) (a .period) (a .from)))
 
 same-length : tie.Need-same-length Inv-loop μ-loop
 same-length c = c .before .before .loop .inv .0 .same
@@ -41,7 +42,7 @@ returns : tie.Need-returns Inv-loop μ-loop
 returns c =
     let a = c .before .before .before .before .args in
     let l = c .before .before .loop in
-    fill-full (signed (l .at)) (ap (map signed) (next-one (a .base) (a .period) (omega arith) (l .at) (a .to) (l .inv .1) (omega arith))) (omega (arith, l .inv .0 .same)) (l .inv .0) (a .ticks)
+    fill-full (loweredBy (2 ^ 41) (l .at)) (ap (map (loweredBy (2 ^ 41))) (next-one (a .base) (a .period) (omega arith) (l .at) (a .to) (l .inv .1) (omega arith))) (omega (arith, l .inv .0 .same)) (l .inv .0) (a .ticks)
 
 add-lowered : tie.Need-add-lowered Inv-loop μ-loop
 add-lowered c = omega arith
@@ -65,8 +66,8 @@ loop-less : tie.Need-loop-less Inv-loop μ-loop
 loop-less c = omega arith
 
 -- what is stored is the second, as a signed one
-stored : (c : tie.After-lowered Inv-loop μ-loop) → toZ w64 (ofZ w64 (c .lowered .result)) ≡ signed (c .before .before .before .loop .at)
-unfolding signed
+stored : (c : tie.After-lowered Inv-loop μ-loop) → toZ w64 (ofZ w64 (c .lowered .result)) ≡ loweredBy (2 ^ 41) (c .before .before .before .loop .at)
+unfolding loweredBy
 stored c =
     let x = c .before .before .before .loop .at in
     let e : toZ w64 (ofZ w64 (c .lowered .result)) ≡ c .lowered .result = search needs in
@@ -77,7 +78,7 @@ loop-again c =
     let a = c .before .before .before .before .before .args in
     let l = c .before .before .before .loop in (
       rw (stored c)
-          (fill-more (signed (l .at)) (ap (map signed) (next-one (a .base) (a .period) (omega arith) (l .at) (a .to) (l .inv .1) (omega arith)))
+          (fill-more (loweredBy (2 ^ 41) (l .at)) (ap (map (loweredBy (2 ^ 41))) (next-one (a .base) (a .period) (omega arith) (l .at) (a .to) (l .inv .1) (omega arith)))
           (omega (arith, l .inv .0 .roomy, l .inv .0 .same)) (l .inv .0)),
       again (a .base) (a .period) (l .at) (l .inv .1),
     )
@@ -89,7 +90,7 @@ returns-2 : tie.Need-returns-2 Inv-loop μ-loop
 returns-2 c =
     let a = c .before .before .before .args in
     let l = c .before .loop in
-    fill-done (ap (map signed) (empty (names (a .base) (a .period)) (omega arith))) (l .inv .0) (a .ticks)
+    fill-done (ap (map (loweredBy (2 ^ 41))) (empty (names (a .base) (a .period)) (omega arith))) (l .inv .0) (a .ticks)
 
 pub run-spec : {M : Type 1} → statement M
 run-spec =

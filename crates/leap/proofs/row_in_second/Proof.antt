@@ -1,15 +1,12 @@
 -- `leap::row_in_second` meets its contract. The loop's invariant: row i has not ended before the second.
-use mathlib.Core.Path.{_≡_, sym, ap, _∙_}
-use mathlib.Core.List.{[]}
-use Prim.Native.Nat.{ℕ, _+_, _-_, _<_, _≤_}
+use mathlib.Core.Path.{_≡_, ap}
+use Prim.Native.Nat.{_-_, _<_}
 use native.Mathlib.Omega.{arith}
 use borrow.Author.Needs.{needs}
-use lib.ListN.{getD}
-use Rattle.leap.specs.declared.Row.{Row}
-use Rattle.leap.specs.Builtin.{builtin, published}
-use Rattle.leap.specs.Inner.{rowAt, endAt, begins, Small}
+use Rattle.leap.specs.Builtin.{builtin}
+use Rattle.leap.specs.Inner.{rowAt, endAt, begins}
 use Rattle.leap.proofs.Rows.{end-back}
-use Rattle.leap.proofs.Builtin.{later-rows, row-is, row-small}
+use Rattle.leap.proofs.Builtin.{later-rows, row-read}
 use Rattle.leap.proofs.row_in_second.Statement.{statement}
 use Rattle.leap.proofs.row_in_second.Tie as tie
 
@@ -18,10 +15,6 @@ Inv-loop s rows i₀ i = (i < 28) × (s < begins (endAt builtin i))
 
 abbrev μ-loop : tie.MeasureT-loop
 μ-loop s rows i₀ i = i
-
--- the row that is looked at
-read : (i : ℕ) → i < 28 → (getD (getD published i []) 0 0 + 714779 ≡ rowAt builtin i .day) × (getD (getD published i []) 1 0 + 64 ≡ rowAt builtin i .offset) × Small (rowAt builtin i)
-read i h = (sym (ap (λ (x : Row). x .day) (row-is i h)), sym (ap (λ (x : Row). x .offset) (row-is i h)), row-small i h)
 
 loop-holds : tie.Need-loop-holds Inv-loop μ-loop
 unfolding builtin
@@ -37,13 +30,13 @@ index-2-if1 : tie.Need-index-2-if1 Inv-loop μ-loop
 index-2-if1 c = search needs
 
 cast-if1 : tie.Need-cast-if1 Inv-loop μ-loop
-cast-if1 c = let l = c .before .before .loop in omega (arith, read (l .i) (l .inv .0))
+cast-if1 c = let l = c .before .before .loop in omega (arith, row-read (l .i) (l .inv .0))
 
 add-if1 : tie.Need-add-if1 Inv-loop μ-loop
-add-if1 c = let l = c .before .before .loop in omega (arith, read (l .i) (l .inv .0))
+add-if1 c = let l = c .before .before .loop in omega (arith, row-read (l .i) (l .inv .0))
 
 mul-if1-2 : tie.Need-mul-if1-2 Inv-loop μ-loop
-mul-if1-2 c = let l = c .before .before .loop in omega (arith, read (l .i) (l .inv .0))
+mul-if1-2 c = let l = c .before .before .loop in omega (arith, row-read (l .i) (l .inv .0))
 
 mul-if1-3 : tie.Need-mul-if1-3 Inv-loop μ-loop
 mul-if1-3 c = omega arith
@@ -55,18 +48,18 @@ index-2-if1-2 : tie.Need-index-2-if1-2 Inv-loop μ-loop
 index-2-if1-2 c = search needs
 
 cast-if1-2 : tie.Need-cast-if1-2 Inv-loop μ-loop
-cast-if1-2 c = let l = c .before .before .before .loop in omega (arith, read (l .i) (l .inv .0))
+cast-if1-2 c = let l = c .before .before .before .loop in omega (arith, row-read (l .i) (l .inv .0))
 
 add-if1-2 : tie.Need-add-if1-2 Inv-loop μ-loop
-add-if1-2 c = let l = c .before .before .before .loop in omega (arith, read (l .i) (l .inv .0))
+add-if1-2 c = let l = c .before .before .before .loop in omega (arith, row-read (l .i) (l .inv .0))
 
 add-if1-3 : tie.Need-add-if1-3 Inv-loop μ-loop
-add-if1-3 c = let l = c .before .before .before .loop in omega (arith, read (l .i) (l .inv .0))
+add-if1-3 c = let l = c .before .before .before .loop in omega (arith, row-read (l .i) (l .inv .0))
 
 returns : tie.Need-returns Inv-loop μ-loop
 returns c =
     let l = c .before .before .before .before .loop in
-    record { row = omega arith; low = omega (arith, read (l .i) (l .inv .0)); high = l .inv .1 }
+    record { row = omega arith; low = omega (arith, row-read (l .i) (l .inv .0)); high = l .inv .1 }
 
 sub-i : tie.Need-sub-i Inv-loop μ-loop
 sub-i c = omega arith
@@ -78,7 +71,7 @@ loop-again : tie.Need-loop-again Inv-loop μ-loop
 loop-again c =
     let l = c .before .before .before .before .loop in
     let e : endAt builtin (l .i - 1) ≡ rowAt builtin (l .i) = end-back builtin (l .i) (rowAt builtin (l .i)) (omega arith) (omega (arith, later-rows)) (λ k. rowAt builtin (l .i)) in
-    (omega arith, omega (arith, ap begins e, read (l .i) (l .inv .0)))
+    (omega arith, omega (arith, ap begins e, row-read (l .i) (l .inv .0)))
 
 returns-2 : tie.Need-returns-2 Inv-loop μ-loop
 unfolding builtin

@@ -1,15 +1,13 @@
 -- `leap::row_on_day` meets its contract. The loop's invariant: row i has not ended before the day.
-use mathlib.Core.Path.{_≡_, sym, ap, _∙_}
-use mathlib.Core.List.{[]}
-use Prim.Native.Nat.{ℕ, _+_, _-_, _<_, _≤_}
+use mathlib.Core.Path.{_≡_, ap}
+use Prim.Native.Nat.{_-_, _<_}
 use native.Mathlib.Omega.{arith}
 use borrow.Author.Needs.{needs}
-use lib.ListN.{getD}
 use Rattle.leap.specs.declared.Row.{Row}
-use Rattle.leap.specs.Builtin.{builtin, published}
-use Rattle.leap.specs.Inner.{rowAt, endAt, Small}
+use Rattle.leap.specs.Builtin.{builtin}
+use Rattle.leap.specs.Inner.{rowAt, endAt}
 use Rattle.leap.proofs.Rows.{end-back}
-use Rattle.leap.proofs.Builtin.{later-rows, row-is, row-small}
+use Rattle.leap.proofs.Builtin.{later-rows, row-read}
 use Rattle.leap.proofs.row_on_day.Statement.{statement}
 use Rattle.leap.proofs.row_on_day.Tie as tie
 
@@ -18,10 +16,6 @@ Inv-loop day rows i₀ i = (i < 28) × (day < endAt builtin i .day)
 
 abbrev μ-loop : tie.MeasureT-loop
 μ-loop day rows i₀ i = i
-
--- the row that is looked at
-read : (i : ℕ) → i < 28 → (getD (getD published i []) 0 0 + 714779 ≡ rowAt builtin i .day) × Small (rowAt builtin i)
-read i h = (sym (ap (λ (x : Row). x .day) (row-is i h)), row-small i h)
 
 loop-holds : tie.Need-loop-holds Inv-loop μ-loop
 unfolding builtin
@@ -37,15 +31,15 @@ index-2-if1 : tie.Need-index-2-if1 Inv-loop μ-loop
 index-2-if1 c = search needs
 
 cast-if1 : tie.Need-cast-if1 Inv-loop μ-loop
-cast-if1 c = let i = c .before .before .loop .i in omega (arith, read i (c .before .before .loop .inv .0))
+cast-if1 c = let i = c .before .before .loop .i in omega (arith, row-read i (c .before .before .loop .inv .0))
 
 add-if1 : tie.Need-add-if1 Inv-loop μ-loop
-add-if1 c = let i = c .before .before .loop .i in omega (arith, read i (c .before .before .loop .inv .0))
+add-if1 c = let i = c .before .before .loop .i in omega (arith, row-read i (c .before .before .loop .inv .0))
 
 returns : tie.Need-returns Inv-loop μ-loop
 returns c =
     let l = c .before .before .before .loop in
-    record { row = omega arith; low = omega (arith, read (l .i) (l .inv .0)); high = l .inv .1 }
+    record { row = omega arith; low = omega (arith, row-read (l .i) (l .inv .0)); high = l .inv .1 }
 
 sub-i : tie.Need-sub-i Inv-loop μ-loop
 sub-i c = omega arith
@@ -57,7 +51,7 @@ loop-again : tie.Need-loop-again Inv-loop μ-loop
 loop-again c =
     let l = c .before .before .before .loop in
     let e : endAt builtin (l .i - 1) ≡ rowAt builtin (l .i) = end-back builtin (l .i) (rowAt builtin (l .i)) (omega arith) (omega (arith, later-rows)) (λ k. rowAt builtin (l .i)) in
-    (omega arith, omega (arith, ap (λ (x : Row). x .day) e, read (l .i) (l .inv .0)))
+    (omega arith, omega (arith, ap (λ (x : Row). x .day) e, row-read (l .i) (l .inv .0)))
 
 returns-2 : tie.Need-returns-2 Inv-loop μ-loop
 unfolding builtin

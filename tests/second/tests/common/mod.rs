@@ -3,6 +3,8 @@
 #![allow(dead_code)]
 
 pub mod codes;
+pub mod lists;
+pub mod tags;
 pub mod texts;
 
 use honigzange::{Record, Span};

@@ -1,0 +1,109 @@
+// The moments that a shortened tag names in a window, listed.
+use codes::Preamble;
+use scale::Record;
+use window::Listing;
+ghost use mathlib.Core.Path.{_≡_};
+ghost use Rattle.base.specs.Outcome.{status, cell, given};
+ghost use Rattle.window.specs.Window.{saysListing, listed, leaves};
+ghost use Rattle.codes.specs.Writing.{from};
+ghost use Rattle.tags.specs.CucTag.{listCuc};
+ghost use Rattle.tags.specs.AsciiTag.{listAscii};
+ghost use Rattle.honigzange.specs.Cells.{time, listedTicks, listedCount, listedMore};
+
+// What a CUC tag names.
+#[no_mangle]
+pub extern "C" fn hz_list_cuc(
+    tag: &[u8],
+    front: bool,
+    p: u8,
+    epoch: i64,
+    begin: i64,
+    beginticks: u64,
+    end: i64,
+    endticks: u64,
+    list: &mut [i64],
+    ticks: &mut u64,
+    count: &mut usize,
+    more: &mut bool,
+) -> u8
+    ensures answer { λ r. ⌜ r ≡ status (listCuc (now (tag .entry)) (from front p) epoch (time begin beginticks) (time end endticks)) ⌝ }
+    ensures seconds { λ _. ⌜ now (list .exit) ≡ leaves (listCuc (now (tag .entry)) (from front p) epoch (time begin beginticks) (time end endticks)) (now (list .entry)) ⌝ }
+    ensures parts { λ _. ⌜ now (ticks .exit) ≡ cell listedTicks (given (listed (now (list .entry))) (listCuc (now (tag .entry)) (from front p) epoch (time begin beginticks) (time end endticks))) (now (ticks .entry)) ⌝ }
+    ensures number { λ _. ⌜ now (count .exit) ≡ cell listedCount (given (listed (now (list .entry))) (listCuc (now (tag .entry)) (from front p) epoch (time begin beginticks) (time end endticks))) (now (count .entry)) ⌝ }
+    ensures further { λ _. ⌜ now (more .exit) ≡ cell listedMore (given (listed (now (list .entry))) (listCuc (now (tag .entry)) (from front p) epoch (time begin beginticks) (time end endticks))) (now (more .entry)) ⌝ }
+{
+    let since = Record {
+        sec: begin,
+        ticks: beginticks,
+    };
+    let before = Record {
+        sec: end,
+        ticks: endticks,
+    };
+    let preamble = preamble_of(front, p);
+    let a = tags::list_cuc(tag, preamble, epoch, since, before, list);
+    give(a, ticks, count, more)
+}
+
+// Where the P octet is.
+fn preamble_of(front: bool, p: u8) -> Preamble
+    ensures { λ r. ⌜ r ≡ from front p ⌝ }
+{
+    if front {
+        return Preamble::Front;
+    }
+    Preamble::Given(p)
+}
+
+// What a shortened ASCII tag names.
+#[no_mangle]
+pub extern "C" fn hz_list_ascii(
+    tag: &[u8],
+    begin: i64,
+    beginticks: u64,
+    end: i64,
+    endticks: u64,
+    list: &mut [i64],
+    ticks: &mut u64,
+    count: &mut usize,
+    more: &mut bool,
+) -> u8
+    ensures answer { λ r. ⌜ r ≡ status (listAscii (now (tag .entry)) (time begin beginticks) (time end endticks)) ⌝ }
+    ensures seconds { λ _. ⌜ now (list .exit) ≡ leaves (listAscii (now (tag .entry)) (time begin beginticks) (time end endticks)) (now (list .entry)) ⌝ }
+    ensures parts { λ _. ⌜ now (ticks .exit) ≡ cell listedTicks (given (listed (now (list .entry))) (listAscii (now (tag .entry)) (time begin beginticks) (time end endticks))) (now (ticks .entry)) ⌝ }
+    ensures number { λ _. ⌜ now (count .exit) ≡ cell listedCount (given (listed (now (list .entry))) (listAscii (now (tag .entry)) (time begin beginticks) (time end endticks))) (now (count .entry)) ⌝ }
+    ensures further { λ _. ⌜ now (more .exit) ≡ cell listedMore (given (listed (now (list .entry))) (listAscii (now (tag .entry)) (time begin beginticks) (time end endticks))) (now (more .entry)) ⌝ }
+{
+    let since = Record {
+        sec: begin,
+        ticks: beginticks,
+    };
+    let before = Record {
+        sec: end,
+        ticks: endticks,
+    };
+    let a = tags::list_ascii(tag, since, before, list);
+    give(a, ticks, count, more)
+}
+
+// A listing's answer into its cells.
+fn give(a: Listing, ticks: &mut u64, count: &mut usize, more: &mut bool) -> u8
+    ensures answer { λ r. ⌜ r ≡ status (saysListing a) ⌝ }
+    ensures parts { λ _. ⌜ now (ticks .exit) ≡ cell listedTicks (saysListing a) (now (ticks .entry)) ⌝ }
+    ensures number { λ _. ⌜ now (count .exit) ≡ cell listedCount (saysListing a) (now (count .entry)) ⌝ }
+    ensures further { λ _. ⌜ now (more .exit) ≡ cell listedMore (saysListing a) (now (more .entry)) ⌝ }
+{
+    match a {
+        Listing::Refused(why) => why.number(),
+        Listing::Done {
+            ticks: t,
+            count: n,
+            more: m,
+        } => {
+            *ticks = t;
+            *count = n;
+            *more = m;
+            0
+        }
+    }
+}

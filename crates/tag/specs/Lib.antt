@@ -1,0 +1,4 @@
+pub mod Forms
+pub mod Tags
+pub mod Inner
+pub mod Shortening

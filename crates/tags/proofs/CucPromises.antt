@@ -1,0 +1,174 @@
+-- What a CUC listing holds, in the words of document 01: "epoch + T + k × 256^c seconds for every whole k of 0 or more .. T taken with its fraction", from the window's start on and before its end.
+use mathlib.Core.Bool.{true}
+use mathlib.Core.List.{List}
+use mathlib.Core.Logic.{_↔_}
+use mathlib.Core.Path.{_≡_, sym, ap, _∙_}
+use Prim.Native.Nat.{ℕ, _+_, _^_, _<_, _≤_}
+use native.Mathlib.Omega.{arith}
+use borrow.Author.Tests.{leb-true}
+use lib.Dec.{leb, lit<}
+use lib.IntN.{ℤ}
+use lib.ListN.{length, getD}
+use Rattle.base.specs.Outcome.{Outcome, done, andThen}
+use Rattle.base.specs.Parts.{minus}
+use Rattle.base.proofs.Ladders.{never, need-done, then-done, given-done, done-is}
+use Rattle.scale.specs.Time.{Time, isRecord}
+use Rattle.scale.proofs.Laws.{good-within}
+use Rattle.window.specs.Among.{Ascending}
+use Rattle.window.specs.Seconds.{raisedBy}
+use Rattle.window.specs.Window.{Named}
+use Rattle.counter.specs.Counter.{names}
+use Rattle.octets.specs.Counts.{countAt}
+use Rattle.octets.specs.Writes.{saysCounted}
+use Rattle.octets.specs.declared.Counted.{Counted}
+use Rattle.octets.specs.declared.Counted.the-variants as C
+use Rattle.cuc.specs.Cuc.{isLayout, field, width, timeOf}
+use Rattle.cuc.specs.declared.Layout as U
+use Rattle.cuc.proofs.Fields.{counted-lt}
+use Rattle.cuc.proofs.Layouts.{layout-good}
+use Rattle.cuc.proofs.Promises.{read-width}
+use Rattle.codes.specs.PField.{ident, laid}
+use Rattle.codes.specs.declared.Preamble.{Preamble}
+use Rattle.codes.specs.declared.Preamble.the-variants.{Front, Given}
+use Rattle.codes.specs.declared.pfield.Layout.{Layout}
+use Rattle.codes.specs.declared.pfield.Layout.the-variants.{Cuc, Cds, Ccs}
+use Rattle.codes.proofs.Layouts.{laid-good}
+use Rattle.tags.specs.Records.{momentsIn, IsListed, Inside, joined}
+use Rattle.tags.specs.CucTag.{Periodic, isCuc, tagWith, tagIn, tagAt, tagOf, listPeriodic, listCuc, Names, CutTo}
+use Rattle.tags.specs.Inner.{Short}
+use Rattle.tags.proofs.Windows.{Ordered, windowed-told, windowed-yes, ordered-then}
+use Rattle.tags.proofs.Records.{Sooner, inside-valid, listed-named, named-listed, ascends, adjoins}
+use Rattle.tags.proofs.CucTags.{whole, tag-good}
+use Rattle.tags.proofs.CucNaming.{follows-named, named-follows, counted-follows, follows-counted, names-cut}
+
+-- ---- the listing
+-- what a tag lists of a window
+abbrev moments : Periodic → Time → Time → Named ℤ
+moments g from to = momentsIn (2 ^ 41) (names (raisedBy (2 ^ 41) (g .first .sec)) (g .period)) (g .first .ticks) from to
+
+-- what is listed is listed of a tag
+pub lists-tag : (s : List ℕ) (p : Preamble) (e : ℤ) (from to : Time) (x : Named ℤ) → listCuc s p e from to ≡ done x → (g : Periodic) × (tagOf s p e ≡ done g)
+unfolding listCuc
+lists-tag s p e from to x h = let (g, (says, _)) = then-done (tagOf s p e) (listPeriodic from to) x h in (g, says)
+
+module _ (s : List ℕ) (p : Preamble) (e : ℤ) (g : Periodic) (says : tagOf s p e ≡ done g) where
+  lists-of : (from to : Time) → listCuc s p e from to ≡ listPeriodic from to g
+  unfolding listCuc
+  lists-of from to = ap (λ (x : Outcome Periodic). andThen x (listPeriodic from to)) says
+
+  listed-of : (from to : Time) (x : Named ℤ) → listCuc s p e from to ≡ done x → Ordered from to × (moments g from to ≡ x)
+  unfolding listPeriodic
+  listed-of from to x h =
+      let (o, i) = windowed-told from to _ x (sym (lists-of from to) ∙ h) in
+      (o, done-is _ x i)
+
+  lists-so : (from to : Time) → Ordered from to → listCuc s p e from to ≡ done (moments g from to)
+  unfolding listPeriodic
+  lists-so from to o = lists-of from to ∙ windowed-yes from to _ o
+
+  module _ (from to : Time) (o : Ordered from to) where
+    low : minus (from .sec) ≤ 2 ^ 41
+    low = good-within (2 ^ 41) from (lit< tt) (o .starts) .low
+
+    short : Short g
+    short = tag-good s p e g says
+
+    moments-exactly : (m : Time) → IsListed (moments g from to) m ↔ ((isRecord m ≡ true) × Names g m × Inside from to m)
+    moments-exactly m = (named, listed)
+      where
+        named : IsListed (moments g from to) m → (isRecord m ≡ true) × Names g m × Inside from to m
+        named l =
+            let (n, i) = listed-named (2 ^ 41) _ (g .first .ticks) from to low (o .in-order) m l in
+            let v = inside-valid from to m (o .starts) (o .ends) (rw (n .1) (short .valid .below)) i in
+            (v, follows-named g m (counted-follows (2 ^ 41) g m (short .valid .low) (good-within (2 ^ 41) m (lit< tt) v .low) n), i)
+
+        listed : (isRecord m ≡ true) × Names g m × Inside from to m → IsListed (moments g from to) m
+        listed (v, n, i) =
+            let f = named-follows g m (good-within (2 ^ 41) m (lit< tt) v .below) (short .valid .below) n in
+            named-listed (2 ^ 41) _ (g .first .ticks) from to low (o .in-order) m (follows-counted (2 ^ 41) g m (short .valid .low) f) i
+
+  module _ (from to : Time) (x : Named ℤ) (h : listCuc s p e from to ≡ done x) where
+    order : Ordered from to
+    order = listed-of from to x h .0
+
+    -- "It names epoch + T + k × 256^c seconds", "The window takes its start and not its end": listed are exactly the records that the tag names inside
+    pub lists-exactly : (m : Time) → IsListed x m ↔ ((isRecord m ≡ true) × Names g m × Inside from to m)
+    lists-exactly m = rw (← listed-of from to x h .1) (moments-exactly from to order m)
+
+    -- ascending, and each once
+    pub lists-ascending : Ascending Sooner (x .all)
+    lists-ascending =
+        rw (← listed-of from to x h .1) (ascends (2 ^ 41) _ (g .first .ticks) from to (low from to order) (order .in-order))
+
+    -- the tick count is the tag's, also where nothing is listed
+    pub lists-ticks : x .ticks ≡ g .first .ticks
+    unfolding momentsIn
+    lists-ticks = sym (ap (λ (y : Named ℤ). y .ticks) (listed-of from to x h .1))
+
+  -- the list of a window followed by that of the adjoining one is the list of both
+  pub lists-adjoin : (a b c : Time) (x y : Named ℤ) → listCuc s p e a b ≡ done x → listCuc s p e b c ≡ done y → listCuc s p e a c ≡ done (joined x y)
+  lists-adjoin a b c x y h i =
+      let (o, f) = listed-of a b x h in
+      let (r, k) = listed-of b c y i in
+      rw (← f, ← k)
+      (lists-so a c (ordered-then a b c o r)
+      ∙ ap done (adjoins (2 ^ 41) _ (g .first .ticks) a b c (low a b o) (o .in-order) (r .in-order)))
+
+-- ---- the tag: its P octet and exactly its T-field
+-- what a tag from `at` on under the P octet o was made of
+pub record Made (s : List ℕ) (at o : ℕ) (e : ℤ) (g : Periodic) : Type 0 where
+  pub layout : U.Layout
+  pub lays : laid o e ≡ done (Cuc layout)
+  pub count : ℕ
+  pub counts : countAt s at (width layout) ≡ C.Done count
+  pub ends : at + width layout ≡ length s
+  pub is : record { first = timeOf layout count; period = 256 ^ layout .coarse } ≡ g
+
+says-done : (r : Counted) (t : ℕ) → saysCounted r ≡ done t → r ≡ C.Done t
+says-done (C.Done n) t e = ap C.Done (done-is n t e)
+says-done C.Bad t e = never 4 t e
+says-done C.Out t e = never 1 t e
+
+made-with : (s : List ℕ) (at o : ℕ) (e : ℤ) (l : U.Layout) (g : Periodic) (m : Time) → laid o e ≡ done (Cuc l) → field s at l ≡ done m → whole s at l m ≡ done g → Made s at o e g
+unfolding field
+made-with s at o e l g m p f h =
+    let (long, i) = need-done (leb (length s) (at + width l)) 4 (done (record { first = m; period = 256 ^ l .coarse })) g h in
+    let (_, q) = need-done (isLayout l) 3 _ m f in
+    let (t, (c, j)) = given-done (timeOf l) (saysCounted (countAt s at (width l))) m q in
+    record {
+      layout = l;
+      lays = p;
+      count = t;
+      counts = says-done _ t c;
+      ends = omega (arith, leb-true (length s) (at + width l) long, read-width s at l m f);
+      is = ap (λ (z : Time). record { first = z; period = 256 ^ l .coarse }) j ∙ done-is _ g i;
+    }
+
+made-in : (s : List ℕ) (at o : ℕ) (e : ℤ) (l : Layout) (g : Periodic) → laid o e ≡ done l → tagIn s at l ≡ done g → Made s at o e g
+unfolding tagIn tagWith
+made-in s at o e (Cuc l) g p h = let (m, (f, k)) = then-done (field s at l) (whole s at l) g h in made-with s at o e l g m p f k
+made-in s at o e (Cds l) g p h = never 2 g h
+made-in s at o e (Ccs l) g p h = never 2 g h
+
+made-at : (s : List ℕ) (at o : ℕ) (e : ℤ) (g : Periodic) → tagAt s at o e ≡ done g → Made s at o e g
+unfolding tagAt
+made-at s at o e g h =
+    let (_, i) = need-done (isCuc (ident o)) 2 _ g h in
+    let (l, (p, k)) = then-done (laid o e) (tagIn s at) g i in
+    made-in s at o e l g p k
+
+-- supplied apart, or read from the front
+pub made-apart : (s : List ℕ) (o : ℕ) (e : ℤ) (g : Periodic) → tagOf s (Given o) e ≡ done g → Made s 0 o e g
+unfolding tagOf
+made-apart s o e g h = made-at s 0 o e g h
+
+pub made-front : (s : List ℕ) (e : ℤ) (g : Periodic) → tagOf s Front e ≡ done g → Made s 1 (getD s 0 0) e g
+unfolding tagOf
+made-front s e g h = made-at s 1 (getD s 0 0) e g (need-done (leb 1 (length s)) 1 _ g h .1)
+
+-- the tag names a record exactly when the record is at or after the epoch, has the tag's ticks, and its whole seconds from the epoch, cut to the coarse octets, are the tag's
+pub made-names : (s : List ℕ) (at o : ℕ) (e : ℤ) (g : Periodic) (d : Made s at o e g) (m : Time) → isRecord m ≡ true → Names g m ↔ CutTo (d .layout) (d .count) m
+made-names s at o e g d m v =
+    let y = laid-good o e (Cuc (d .layout)) (d .lays) in
+    rw (← d .is)
+    (names-cut (d .layout) (layout-good (d .layout) y) (d .count) (counted-lt s at (d .layout) y (d .count) (d .counts)) m (good-within (2 ^ 41) m (lit< tt) v .below))

@@ -1,0 +1,68 @@
+-- Document 01's known listing, and the order of refusals, by computation.
+use mathlib.Core.Path.{_≡_, refl, ap}
+use mathlib.Core.Bool.{true, false}
+use mathlib.Core.List.{List, [], _∷_, map}
+use Prim.Native.Nat.{ℕ, _^_}
+use lib.IntN.{ℤ, pos, negsuc}
+use Rattle.base.specs.Outcome.{Outcome, done, given, status}
+use Rattle.base.specs.Parts.{within}
+use Rattle.scale.specs.Time.{Time, good}
+use Rattle.window.specs.Seconds.{loweredBy, firstSecond}
+use Rattle.window.specs.Window.{Named, listed, filled, leaves, namedIn, filter, consIf, range, up}
+use Rattle.counter.specs.Counter.{names}
+use Rattle.octets.specs.Counts.{countOf}
+use Rattle.cuc.specs.Cuc.{isLayout, width, unit, timeOf, field}
+use Rattle.codes.specs.PField.{known, laid, cucLaid}
+use Rattle.codes.specs.declared.Preamble.the-variants.{Front, Given}
+use Rattle.tags.specs.Records.{startAt, momentsIn}
+use Rattle.tags.specs.CucTag.{isCuc, tagWith, tagIn, tagAt, tagOf, listPeriodic, listCuc}
+
+abbrev time : ℤ → ℕ → Time
+time s n = record { sec = s; ticks = n }
+
+-- "CUC 10 00, epoch 1958, window 0 to 1024: 0, 256, 512, 768, no more"
+abbrev shown : Outcome (Named ℤ)
+shown = listCuc (16 ∷ 0 ∷ []) Front (pos 0) (time (pos 0) 0) (time (pos 1024) 0)
+
+abbrev four : Named ℤ
+four = record { ticks = 0; all = pos 0 ∷ pos 256 ∷ pos 512 ∷ pos 768 ∷ [] }
+
+lists-four : shown ≡ done four
+unfolding isLayout within width unit timeOf field good countOf known laid cucLaid isCuc tagWith tagIn tagAt tagOf listPeriodic listCuc startAt momentsIn firstSecond loweredBy names namedIn filter consIf range up
+lists-four = refl
+
+-- with room for six, and "Room 2: 0, 256, more"
+abbrev six : List ℤ
+six = pos 9 ∷ pos 9 ∷ pos 9 ∷ pos 9 ∷ pos 9 ∷ pos 9 ∷ []
+
+abbrev two : List ℤ
+two = pos 9 ∷ pos 9 ∷ []
+
+rooms : (given (listed six) shown ≡ done (record { ticks = 0; count = 4; more = false })) × (leaves shown six ≡ pos 0 ∷ pos 256 ∷ pos 512 ∷ pos 768 ∷ pos 9 ∷ pos 9 ∷ []) × (given (listed two) shown ≡ done (record { ticks = 0; count = 2; more = true })) × (leaves shown two ≡ pos 0 ∷ pos 256 ∷ [])
+unfolding listed filled
+rooms = (ap (given (listed six)) lists-four, ap (λ (x : Outcome (Named ℤ)). leaves x six) lists-four, ap (given (listed two)) lists-four, ap (λ (x : Outcome (Named ℤ)). leaves x two) lists-four)
+
+-- one coarse octet and a fine one of a half: at its ends a window takes the half second that it starts at, and not the one that it ends at; a caller's epoch before 1958
+abbrev half : ℕ
+half = 2048000000000000
+
+abbrev halves : Time → Time → Outcome (Named ℤ)
+halves from to = listCuc (0 ∷ 128 ∷ []) (Given 17) (pos 0) from to
+
+ends : (halves (time (pos 0) half) (time (pos 256) half) ≡ done (record { ticks = half; all = pos 0 ∷ [] })) × (halves (time (pos 0) 2048000000000001) (time (pos 256) 2048000000000001) ≡ done (record { ticks = half; all = pos 256 ∷ [] })) × (halves (time (pos 1) 0) (time (pos 1) 0) ≡ done (record { ticks = half; all = [] })) × (listCuc (32 ∷ 0 ∷ []) Front (negsuc 9) (time (negsuc 99) 0) (time (pos 300) 0) ≡ done (record { ticks = 0; all = negsuc 9 ∷ pos 246 ∷ [] }))
+unfolding isLayout within width unit timeOf field good countOf known laid cucLaid isCuc tagWith tagIn tagAt tagOf listPeriodic listCuc startAt momentsIn firstSecond loweredBy names namedIn filter consIf range up
+ends = (refl, refl, refl, refl)
+
+-- the order of refusals: what is refused breaks later rules too; last, equal ends and an epoch that the code does not use
+abbrev bad : Time
+bad = time (pos 0) 4096000000000000
+
+abbrev late : Time
+late = time (pos 5) 0
+
+abbrev soon : Time
+soon = time (pos 4) 0
+
+refusals : map status (listCuc [] Front (pos (2 ^ 40)) bad bad ∷ listCuc [] (Given 176) (pos (2 ^ 40)) bad bad ∷ listCuc [] (Given 192) (pos (2 ^ 40)) bad bad ∷ listCuc [] (Given 67) (pos (2 ^ 40)) bad bad ∷ listCuc [] (Given 87) (pos (2 ^ 40)) bad bad ∷ listCuc [] (Given 160) (pos (2 ^ 40)) bad bad ∷ listCuc [] (Given 32) (pos (2 ^ 40)) bad bad ∷ listCuc [] (Given 32) (pos 0) bad bad ∷ listCuc (0 ∷ 0 ∷ []) (Given 16) (pos (2 ^ 40)) bad bad ∷ listCuc (0 ∷ []) (Given 16) (pos (2 ^ 40)) bad soon ∷ listCuc (0 ∷ []) (Given 16) (pos (2 ^ 40)) late bad ∷ listCuc (0 ∷ []) (Given 16) (pos (2 ^ 40)) late soon ∷ listCuc (0 ∷ []) (Given 16) (pos (2 ^ 40)) late late ∷ []) ≡ 1 ∷ 2 ∷ 2 ∷ 2 ∷ 2 ∷ 3 ∷ 7 ∷ 1 ∷ 4 ∷ 7 ∷ 7 ∷ 9 ∷ 0 ∷ []
+unfolding isLayout within width unit timeOf field good countOf known laid cucLaid isCuc tagWith tagIn tagAt tagOf listPeriodic listCuc startAt momentsIn firstSecond loweredBy names namedIn filter consIf range up
+refusals = refl

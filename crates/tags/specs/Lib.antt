@@ -1,0 +1,5 @@
+pub mod Records
+pub mod CucTag
+pub mod Ends
+pub mod Inner
+pub mod AsciiTag
