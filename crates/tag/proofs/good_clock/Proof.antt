@@ -1,5 +1,7 @@
 -- `tag::good_clock` meets its contract.
+use mathlib.Core.Path.{_∙_}
 use borrow.Author.Needs.{needs}
+use Rattle.clock.specs.Clock.{clockOk}
 use Rattle.tag.specs.Tags.{goodClock}
 use Rattle.tag.proofs.good_clock.Statement.{statement}
 use Rattle.tag.proofs.good_clock.Tie as tie
@@ -20,7 +22,7 @@ returns : tie.Need-returns
 unfolding goodClock
 returns c =
     let k = c .before in
-    rw (← k .or-else3 .ensures, ← k .before .or-else2 .ensures, ← k .before .before .or-else .ensures) (c .is-clock .ensures)
+    c .is-clock .ensures ∙ (λ i. clockOk (k .before .before .or-else .ensures i) (k .before .or-else2 .ensures i) (k .or-else3 .ensures i))
 
 pub good-clock-spec : {M : Type 1} → statement M
 good-clock-spec =
