@@ -1,0 +1,40 @@
+-- The one statement: each line of the table answers what it says, by computation.
+use mathlib.Core.Path.{_≡_, refl}
+use mathlib.Core.List.{map}
+use Rattle.base.specs.Parts.{within}
+use Rattle.scale.specs.Time.{good}
+use Rattle.octets.specs.Counts.{countOf}
+use Rattle.octets.specs.Stores.{pasted}
+use Rattle.octets.specs.Writes.{roomed}
+use Rattle.calendar.specs.Gregorian.{kind, yearStart, yearsTo, row, monthLength, isDate, isOrdinal, dayIndex, ordinalOn, dateIn, indexOfDate, indexOfOrdinal, ordinalAt}
+use Rattle.leap.specs.Table.{offset, start, dayLength, covers, secondAt, dayHolding, coversSecond, readingAt}
+use Rattle.leap.specs.Builtin.{builtin}
+use Rattle.leap.specs.Utc.{raisedBy, readingOf, secondOf, utcOfSecond, secondOfUtc}
+use Rattle.window.specs.Seconds.{loweredBy, firstSecond}
+use Rattle.window.specs.Window.{listed, filled, namedIn, filter, consIf, range, up}
+use Rattle.counter.specs.Counter.{names}
+use Rattle.cuc.specs.Cuc as U
+use Rattle.cds.specs.Cds as D
+use Rattle.ccs.specs.Ccs as C
+use Rattle.ascii.specs.Shapes.{shapes, shaped}
+use Rattle.ascii.specs.Ascii as A
+use Rattle.codes.specs.PField.{laid, cucLaid, cdsLaid, ccsLaid}
+use Rattle.codes.specs.PField as P
+use Rattle.codes.specs.Reading.{scanIn, scanAt, scanOf}
+use Rattle.codes.specs.Writing.{writeOf}
+use Rattle.tags.specs.Records.{startAt, momentsIn}
+use Rattle.tags.specs.CucTag.{isCuc, tagWith, tagIn, tagAt, tagOf, listPeriodic, listCuc}
+use Rattle.known.specs.Known.{Line, answer, table}
+
+pub known-times : map (λ (l : Line). answer (l .call)) table ≡ map (λ (l : Line). l .says) table
+unfolding table
+    within good countOf pasted roomed
+    kind yearStart yearsTo row monthLength isDate isOrdinal dayIndex ordinalOn dateIn indexOfDate indexOfOrdinal ordinalAt
+    offset start dayLength covers secondAt dayHolding coversSecond readingAt builtin raisedBy readingOf secondOf utcOfSecond secondOfUtc
+    U.isLayout U.width U.unit U.timeOf U.field U.holds U.countOf U.bytesOf
+    D.isLayout D.width D.timed D.fieldBy D.held D.laid D.bytesOn D.bytesBy
+    C.width C.dayAt C.clockAt C.timeOf C.fieldBy C.dateText C.clockText C.bytesBy
+    shapes shaped A.layoutOf A.dayAt A.clockAt A.fieldsOf A.timeOf A.textBy A.dayText A.clockText A.codeText A.bytesBy
+    P.known laid cucLaid cdsLaid ccsLaid scanIn scanAt scanOf writeOf
+    listed filled loweredBy firstSecond names namedIn filter consIf range up startAt momentsIn isCuc tagWith tagIn tagAt tagOf listPeriodic listCuc
+known-times = refl
