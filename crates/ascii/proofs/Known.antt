@@ -1,4 +1,4 @@
--- The known times of document 01, by computation: texts read, texts refused, and times written.
+-- Texts read, texts refused and times written, by computation, beside those of crate `known`.
 use mathlib.Core.Path.{_≡_, refl}
 use mathlib.Core.Bool.{true, false}
 use mathlib.Core.List.{List, [], _∷_, map}
@@ -16,19 +16,15 @@ use Rattle.ascii.specs.Shapes.{shapes, shaped}
 use Rattle.ascii.specs.Ascii.{width, layoutOf, dayAt, clockAt, fieldsOf, time, timeOf, textBy, text, dayText, clockText, codeText, bytesBy, bytesOf}
 use Rattle.ascii.proofs.Shapes.{lay}
 
--- "1988-018T17:20:43.123456Z"; 23:59:60, the second before it and the one after it
-times : List (List ℕ)
-times = bytes "1988-018T17:20:43.123456Z" ∷ bytes "2016-12-31T23:59:60" ∷ bytes "2016-12-31T23:59:59" ∷ bytes "2017-01-01T00:00:00" ∷ bytes "2016-366T23:59:60.000000000001Z" ∷ []
-
-read-times : map text times ≡ done (time (pos 948216067) 505675776000000) ∷ done (time (pos 1861920036) 0) ∷ done (time (pos 1861920035) 0) ∷ done (time (pos 1861920037) 0) ∷ done (time (pos 1861920036) 4096) ∷ []
-unfolding times textBy fieldsOf timeOf dayAt clockAt layoutOf shaped shapes indexOfDate indexOfOrdinal isDate isOrdinal monthLength dayIndex yearStart kind row secondOf secondAt covers dayLength start offset builtin
+-- a picosecond of 23:59:60
+read-times : text (bytes "2016-366T23:59:60.000000000001Z") ≡ done (time (pos 1861920036) 4096)
+unfolding textBy fieldsOf timeOf dayAt clockAt layoutOf shaped shapes indexOfDate indexOfOrdinal isDate isOrdinal monthLength dayIndex yearStart kind row secondOf secondAt covers dayLength start offset builtin
 read-times = refl
 
--- 1: empty. 4: second 60 at noon; 13 digits; a period and no digit; a lower-case z; a blank; a byte after Z; year 0; day 366 of an ordinary year; a slash. 5: a day past and a day before the cover. 6: a second 60 on a day without one
+-- 1: empty. 4: 13 digits; a period and no digit; a lower-case z; a blank; a byte after Z; year 0; day 366 of an ordinary year; a slash
 wrong : List (List ℕ)
 wrong =
     bytes "" ∷
-    bytes "2016-12-31T12:00:60" ∷
     bytes "2016-12-31T12:00:00.1234567890123" ∷
     bytes "2016-12-31T12:00:00." ∷
     bytes "2016-12-31T12:00:00z" ∷
@@ -36,22 +32,19 @@ wrong =
     bytes "2016-12-31T12:00:00Z0" ∷
     bytes "0000-12-31T12:00:00" ∷
     bytes "2015-366T12:00:00" ∷
-    bytes "2016-12/31T12:00:00" ∷
-    bytes "2026-01-01T00:00:00" ∷
-    bytes "1971-12-31T23:59:59" ∷
-    bytes "2015-12-31T23:59:60" ∷ []
+    bytes "2016-12/31T12:00:00" ∷ []
 
-refuse-wrong : map text wrong ≡ refused 1 ∷ refused 4 ∷ refused 4 ∷ refused 4 ∷ refused 4 ∷ refused 4 ∷ refused 4 ∷ refused 4 ∷ refused 4 ∷ refused 4 ∷ refused 5 ∷ refused 5 ∷ refused 6 ∷ []
+refuse-wrong : map text wrong ≡ refused 1 ∷ refused 4 ∷ refused 4 ∷ refused 4 ∷ refused 4 ∷ refused 4 ∷ refused 4 ∷ refused 4 ∷ refused 4 ∷ []
 unfolding wrong textBy fieldsOf timeOf dayAt clockAt layoutOf shaped shapes indexOfDate indexOfOrdinal isDate isOrdinal monthLength dayIndex yearStart kind row secondOf secondAt covers dayLength start offset builtin
 refuse-wrong = refl
 
--- "fraction 31/256, written back with 6 digits as .121093"; the last tick of a second is not rounded up; 23:59:60 in both forms; 13 digits; past the cover; no record
+-- the last tick of a second is not rounded up; 23:59:60 in both forms; 13 digits; past the cover; no record
 abbrev cuc : Time
 cuc = time (pos 948216067) (31 * (perSecond / 256))
 
-write-times : (bytesOf (lay true 6 true) cuc ≡ done (bytes "1988-018T17:20:43.121093Z")) × (bytesOf (lay false 3 true) (time (pos 1861920036) 4095999999999999) ≡ done (bytes "2016-12-31T23:59:60.999Z")) × (bytesOf (lay true 0 false) (time (pos 1861920036) 0) ≡ done (bytes "2016-366T23:59:60")) × (bytesOf (lay false 13 true) cuc ≡ refused 3) × (bytesOf (lay false 12 true) (time (pos 2145916837) 0) ≡ refused 5) × (bytesOf (lay false 13 true) (time (pos 0) perSecond) ≡ refused 7)
+write-times : (bytesOf (lay false 3 true) (time (pos 1861920036) 4095999999999999) ≡ done (bytes "2016-12-31T23:59:60.999Z")) × (bytesOf (lay true 0 false) (time (pos 1861920036) 0) ≡ done (bytes "2016-366T23:59:60")) × (bytesOf (lay false 13 true) cuc ≡ refused 3) × (bytesOf (lay false 12 true) (time (pos 2145916837) 0) ≡ refused 5) × (bytesOf (lay false 13 true) (time (pos 0) perSecond) ≡ refused 7)
 unfolding bytesBy codeText dayText clockText ordinalOn yearsTo dateIn yearStart kind row readingOf raisedBy readingAt coversSecond dayHolding start offset builtin good within
-write-times = (refl, refl, refl, refl, refl, refl)
+write-times = (refl, refl, refl, refl, refl)
 
 widths : (width (lay true 0 false) ≡ 17) × (width (lay false 3 true) ≡ 24) × (width (lay false 12 true) ≡ 33) × (width (lay false 13 true) ≡ 0)
 unfolding width

@@ -1,4 +1,4 @@
--- Document 01's known times as CCS, by computation. The octets are in decimal: 20 16 in BCD is 32, 22.
+-- Times and refusals of CCS, by computation, beside the known times of crate `known`. The octets are in decimal: 20 16 in BCD is 32, 22.
 use mathlib.Core.Path.{_≡_, refl}
 use mathlib.Core.Bool.{Bool, true, false}
 use mathlib.Core.List.{List, [], _∷_, _++_, map}
@@ -8,7 +8,7 @@ use Rattle.base.specs.Parts.{within}
 use Rattle.base.specs.Outcome.{done, refused}
 use Rattle.scale.specs.Time.{Time, good}
 use Rattle.octets.specs.Counts.{countOf}
-use Rattle.calendar.specs.Gregorian.{kind, yearStart, yearsTo, row, monthLength, isDate, isOrdinal, dayIndex, ordinalOn, dateIn, indexOfDate, indexOfOrdinal, ordinalAt}
+use Rattle.calendar.specs.Gregorian.{kind, yearStart, yearsTo, row, monthLength, isDate, isOrdinal, dayIndex, ordinalOn, indexOfDate, indexOfOrdinal, ordinalAt}
 use Rattle.leap.specs.Table.{offset, start, dayLength, covers, dayHolding, coversSecond, secondAt, readingAt}
 use Rattle.leap.specs.Utc.{raisedBy, secondOf, readingOf}
 use Rattle.leap.specs.Builtin.{builtin}
@@ -21,25 +21,13 @@ by o w = record { ordinal = o; segments = w }
 abbrev at : ℕ → ℕ → Time
 at s k = record { sec = pos s; ticks = k }
 
--- 20 16 03 66 and 20 16 12 31, 20 15 12 31, 20 26 01 01, 19 71 12 31
-abbrev ordinal-2016 : List ℕ
-ordinal-2016 = 32 ∷ 22 ∷ 3 ∷ 102 ∷ []
-
+-- 20 16 12 31
 abbrev month-2016 : List ℕ
 month-2016 = 32 ∷ 22 ∷ 18 ∷ 49 ∷ []
 
 -- 23 59 60
 abbrev leap-second : List ℕ
 leap-second = 35 ∷ 89 ∷ 96 ∷ []
-
--- 2016-12-31T23:59:60 is second 1,861,920,036, by the day of the year and by month and day, read and written
-read-last : (field (ordinal-2016 ++ leap-second) 0 (by true 0) ≡ done (at 1861920036 0)) × (field (month-2016 ++ leap-second) 0 (by false 0) ≡ done (at 1861920036 0))
-unfolding fieldBy width dayAt clockAt timeOf countOf indexOfDate indexOfOrdinal isDate isOrdinal monthLength dayIndex yearStart kind row secondOf secondAt covers dayLength start offset builtin
-read-last = (refl, refl)
-
-write-last : (bytesOf (by true 0) (at 1861920036 0) ≡ done (ordinal-2016 ++ leap-second)) × (bytesOf (by false 0) (at 1861920036 0) ≡ done (month-2016 ++ leap-second))
-unfolding bytesBy dateText clockText good within readingOf raisedBy readingAt coversSecond dayHolding start offset builtin ordinalAt ordinalOn dateIn yearsTo yearStart kind row
-write-last = (refl, refl)
 
 -- 2016-12-31T23:59:59, 2017-01-01T00:00:00, 2015-12-31T23:59:60, 2026-01-01T00:00:00, 1971-12-31T23:59:59 and 2016-12-31T12:00:60; then second 86,400 of the last day but as 24:00:00, a bad digit, 2016-13-31, year 0000, and one octet short
 known : map (λ s. field s 0 (by false 0)) ((month-2016 ++ (35 ∷ 89 ∷ 89 ∷ [])) ∷ (32 ∷ 23 ∷ 1 ∷ 1 ∷ 0 ∷ 0 ∷ 0 ∷ []) ∷ ((32 ∷ 21 ∷ 18 ∷ 49 ∷ []) ++ leap-second) ∷ (32 ∷ 38 ∷ 1 ∷ 1 ∷ 0 ∷ 0 ∷ 0 ∷ []) ∷ ((25 ∷ 113 ∷ 18 ∷ 49 ∷ []) ++ (35 ∷ 89 ∷ 89 ∷ [])) ∷ (month-2016 ++ (18 ∷ 0 ∷ 96 ∷ [])) ∷ (month-2016 ++ (36 ∷ 0 ∷ 0 ∷ [])) ∷ (month-2016 ++ (35 ∷ 89 ∷ 90 ∷ [])) ∷ ((32 ∷ 22 ∷ 19 ∷ 49 ∷ []) ++ leap-second) ∷ ((0 ∷ 0 ∷ 18 ∷ 49 ∷ []) ++ leap-second) ∷ (month-2016 ++ (35 ∷ 89 ∷ [])) ∷ []) ≡ done (at 1861920035 0) ∷ done (at 1861920037 0) ∷ refused 6 ∷ refused 5 ∷ refused 5 ∷ refused 4 ∷ refused 4 ∷ refused 4 ∷ refused 4 ∷ refused 4 ∷ refused 1 ∷ []

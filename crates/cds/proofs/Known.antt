@@ -1,4 +1,4 @@
--- Document 01's known time of CDS, each refusal in its order, and the ends of the ranges, by computation.
+-- Each refusal of CDS in its order, and the ends of the ranges, by computation, beside the known times of crate `known`.
 use mathlib.Core.Path.{_≡_, refl}
 use mathlib.Core.List.{List, [], _∷_, map}
 use Prim.Native.Nat.{ℕ}
@@ -18,18 +18,6 @@ layout e d p = record { epoch = e; day = d; part = p }
 
 abbrev time : ℕ → ℕ → Time
 time s k = record { sec = pos s; ticks = k }
-
--- "2016-12-31T23:59:60: second 1,861,920,036 .. CDS 40 54 2D 05 26 5C 00", without the P octet
-abbrev code : List ℕ
-code = 0x54 ∷ 0x2d ∷ 0x05 ∷ 0x26 ∷ 0x5c ∷ 0x00 ∷ []
-
-known-read : field code 0 (layout (pos 0) 2 0) ≡ done (time 1861920036 0)
-unfolding fieldBy timed isLayout width countOf within secondOfUtc secondOf raisedBy secondAt covers dayLength start offset builtin
-known-read = refl
-
-known-written : bytesOf (layout (pos 0) 2 0) (time 1861920036 0) ≡ done code
-unfolding bytesBy bytesOn isLayout held laid within good utcOfSecond readingOf raisedBy readingAt coversSecond dayHolding start offset builtin
-known-written = refl
 
 -- by an epoch day of 21,549, with microseconds: the last microsecond of 23:59:60; one more of the millisecond, 4; a millisecond past it, 4; on the day before, 6; on a day past the cover, 5; one octet less, 1; no layout, 3
 abbrev reads : List ℕ → Outcome Time

@@ -1,4 +1,4 @@
--- Document 01's known times as T-fields, and the ends of what a layout is and holds, by computation.
+-- T-fields, and the ends of what a layout is and holds, by computation, beside the known times of crate `known`.
 use mathlib.Core.Path.{_≡_, refl}
 use mathlib.Core.List.{List, [], _∷_, map}
 use Prim.Native.Nat.{ℕ, _^_}
@@ -17,18 +17,13 @@ time s n = record { sec = s; ticks = n }
 abbrev laid : ℤ → ℕ → ℕ → Layout
 laid e c f = record { epoch = e; coarse = c; fine = f }
 
--- 2016-12-31T23:59:60: "second 1,861,920,036. CUC 1C 6E FA A5 24", of which the first octet is the P octet; a byte before it and one after
+-- 2016-12-31T23:59:60 with a byte before it and one after
 abbrev second : List ℕ
 second = 110 ∷ 250 ∷ 165 ∷ 36 ∷ []
 
-leap-second : (field second 0 (laid (pos 0) 4 0) ≡ done (time (pos 1861920036) 0)) × (field (28 ∷ 110 ∷ 250 ∷ 165 ∷ 36 ∷ 9 ∷ []) 1 (laid (pos 0) 4 0) ≡ done (time (pos 1861920036) 0)) × (bytesOf (laid (pos 0) 4 0) (time (pos 1861920036) 0) ≡ done second)
-unfolding isLayout within width unit timeOf field holds bytesOf good countOf P.countOf
-leap-second = (refl, refl, refl)
-
--- "The same moment as CUC with one fine octet: fraction 31/256", taken downward
-fraction : (bytesOf (laid (pos 0) 4 1) (time (pos 948216067) 505675776000000) ≡ done (56 ∷ 132 ∷ 161 ∷ 3 ∷ 31 ∷ [])) × (field (56 ∷ 132 ∷ 161 ∷ 3 ∷ 31 ∷ []) 0 (laid (pos 0) 4 1) ≡ done (time (pos 948216067) 496000000000000))
-unfolding isLayout within width unit timeOf field holds bytesOf good countOf P.countOf
-fraction = (refl, refl)
+between : field (28 ∷ 110 ∷ 250 ∷ 165 ∷ 36 ∷ 9 ∷ []) 1 (laid (pos 0) 4 0) ≡ done (time (pos 1861920036) 0)
+unfolding isLayout within width unit timeOf field good countOf
+between = refl
 
 -- an epoch of its own, before 1958: the ends of one coarse octet, and past each
 abbrev near : Layout

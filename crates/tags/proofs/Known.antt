@@ -1,14 +1,13 @@
--- Document 01's known listing, and the order of refusals, by computation.
-use mathlib.Core.Path.{_≡_, refl, ap}
-use mathlib.Core.Bool.{true, false}
-use mathlib.Core.List.{List, [], _∷_, map}
+-- The ends of a window, and the order of refusals, by computation, beside the known listings of crate `known`.
+use mathlib.Core.Path.{_≡_, refl}
+use mathlib.Core.List.{[], _∷_, map}
 use Prim.Native.Nat.{ℕ, _^_}
 use lib.IntN.{ℤ, pos, negsuc}
-use Rattle.base.specs.Outcome.{Outcome, done, given, status}
+use Rattle.base.specs.Outcome.{Outcome, done, status}
 use Rattle.base.specs.Parts.{within}
 use Rattle.scale.specs.Time.{Time, good}
 use Rattle.window.specs.Seconds.{loweredBy, firstSecond}
-use Rattle.window.specs.Window.{Named, listed, filled, leaves, namedIn, filter, consIf, range, up}
+use Rattle.window.specs.Window.{Named, namedIn, filter, consIf, range, up}
 use Rattle.counter.specs.Counter.{names}
 use Rattle.octets.specs.Counts.{countOf}
 use Rattle.cuc.specs.Cuc.{isLayout, width, unit, timeOf, field}
@@ -19,28 +18,6 @@ use Rattle.tags.specs.CucTag.{isCuc, tagWith, tagIn, tagAt, tagOf, listP
 
 abbrev time : ℤ → ℕ → Time
 time s n = record { sec = s; ticks = n }
-
--- "CUC 10 00, epoch 1958, window 0 to 1024: 0, 256, 512, 768, no more"
-abbrev shown : Outcome (Named ℤ)
-shown = listCuc (16 ∷ 0 ∷ []) Front (pos 0) (time (pos 0) 0) (time (pos 1024) 0)
-
-abbrev four : Named ℤ
-four = record { ticks = 0; all = pos 0 ∷ pos 256 ∷ pos 512 ∷ pos 768 ∷ [] }
-
-lists-four : shown ≡ done four
-unfolding isLayout within width unit timeOf field good countOf known laid cucLaid isCuc tagWith tagIn tagAt tagOf listPeriodic listCuc startAt momentsIn firstSecond loweredBy names namedIn filter consIf range up
-lists-four = refl
-
--- with room for six, and "Room 2: 0, 256, more"
-abbrev six : List ℤ
-six = pos 9 ∷ pos 9 ∷ pos 9 ∷ pos 9 ∷ pos 9 ∷ pos 9 ∷ []
-
-abbrev two : List ℤ
-two = pos 9 ∷ pos 9 ∷ []
-
-rooms : (given (listed six) shown ≡ done (record { ticks = 0; count = 4; more = false })) × (leaves shown six ≡ pos 0 ∷ pos 256 ∷ pos 512 ∷ pos 768 ∷ pos 9 ∷ pos 9 ∷ []) × (given (listed two) shown ≡ done (record { ticks = 0; count = 2; more = true })) × (leaves shown two ≡ pos 0 ∷ pos 256 ∷ [])
-unfolding listed filled
-rooms = (ap (given (listed six)) lists-four, ap (λ (x : Outcome (Named ℤ)). leaves x six) lists-four, ap (given (listed two)) lists-four, ap (λ (x : Outcome (Named ℤ)). leaves x two) lists-four)
 
 -- one coarse octet and a fine one of a half: at its ends a window takes the half second that it starts at, and not the one that it ends at; a caller's epoch before 1958
 abbrev half : ℕ
