@@ -17,7 +17,7 @@ use Rattle.seek.specs.Naming.{may, dayFits}
 use Rattle.tag.specs.Forms.{Form, Forms, form, free, lowest, at, days, months, find, same, shapeOf}
 use Rattle.tag.specs.Tags.{calendarAs}
 use Rattle.tag.specs.Shortening.{cut, Run}
-use Rattle.tag.proofs.Shapes.{same-is}
+use Rattle.tag.proofs.Scans.{same-is}
 use Rattle.tag.proofs.Cuts.{Piece, sep, num, spell, outline, clean, Agree, spelled}
 use Rattle.tag.proofs.Subfields.{dated}
 

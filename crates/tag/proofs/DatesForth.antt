@@ -23,7 +23,8 @@ use Rattle.seek.specs.Naming.{may, dayFits}
 use Rattle.tag.specs.Forms.{Form, form, free, lowest, at, days, months, find, same, shapeOf}
 use Rattle.tag.specs.Tags.{until, calendarAs, goodDay}
 use Rattle.tag.specs.Shortening.{cut, lowFrom, Run}
-use Rattle.tag.proofs.Shapes.{same-is, until-shape}
+use Rattle.tag.proofs.Scans.{same-is}
+use Rattle.tag.proofs.Shapes.{until-shape}
 use Rattle.tag.proofs.Cuts.{Piece, sep, num, spell, outline, clean, spell-shape}
 use Rattle.tag.proofs.Subfields.{dated}
 

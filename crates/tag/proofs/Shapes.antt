@@ -1,6 +1,6 @@
 -- Shapes of texts, and where a character first stands.
 use mathlib.Core.Path.{_≡_, refl, sym, ap, _∙_}
-use mathlib.Core.Bool.{Bool, true, false, cond, false≢true}
+use mathlib.Core.Bool.{Bool, true, false, cond}
 use mathlib.Core.List.{List, [], _∷_, _++_}
 use Prim.Native.Nat.{ℕ, zero, suc, _+_, _≤_, _<_}
 use native.Mathlib.Nat.{not-suc-le-zero, le-of-suc-le-suc}
@@ -8,18 +8,12 @@ use native.Mathlib.Omega.{arith}
 use lib.Dec.{eqb}
 use lib.ListN.{length, getD, take, drop}
 use borrow.Author.Tests.{eqb-true, ne-eqb}
-use Rattle.base.proofs.Bools.{and-true, never-both, cond-yes, cond-no}
+use Rattle.base.proofs.Bools.{never-both, cond-yes, cond-no}
 use Rattle.octets.specs.Places.{digitGood, digitOf, digits, allGood}
 use Rattle.octets.proofs.Places.{digit-rule, all-good, good-at, places-good, length-places}
 use Rattle.ascii.proofs.Shapes.{zeros}
-use Rattle.tag.specs.Forms.{kind, shapeOf, same}
+use Rattle.tag.specs.Forms.{kind, shapeOf}
 use Rattle.tag.specs.Tags.{until}
-
-pub same-is : (x y : List ℕ) → same x y ≡ true → x ≡ y
-same-is [] [] e = refl
-same-is [] (y ∷ ys) e = absurd (false≢true e)
-same-is (x ∷ xs) [] e = absurd (false≢true e)
-same-is (x ∷ xs) (y ∷ ys) e = let p = and-true (eqb x y) (same xs ys) e in rw (eqb-true x y (p .0), same-is xs ys (p .1))
 
 -- ---- a character
 pub kind-digit : (b : ℕ) → digitGood b ≡ true → kind b ≡ 48
@@ -47,11 +41,6 @@ pub shape-append : (a b : List ℕ) → shapeOf (a ++ b) ≡ shapeOf a ++ shapeO
 unfolding shapeOf
 shape-append [] b = refl
 shape-append (x ∷ a) b = ap (λ (l : List ℕ). kind x ∷ l) (shape-append a b)
-
-pub shape-length : (s : List ℕ) → length (shapeOf s) ≡ length s
-unfolding shapeOf
-shape-length [] = refl
-shape-length (x ∷ s) = ap suc (shape-length s)
 
 -- digits only
 pub good-shape : (s : List ℕ) → allGood digitGood s (length s) ≡ true → shapeOf s ≡ zeros (length s)

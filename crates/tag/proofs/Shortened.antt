@@ -1,16 +1,14 @@
 -- A full code, shortened, is a tag that wants what the code has.
-use mathlib.Core.Path.{_≡_, refl, sym, ap, ap₂, _∙_}
-use mathlib.Core.Bool.{Bool, true, cond}
+use mathlib.Core.Path.{_≡_, refl, sym, ap₂, _∙_}
+use mathlib.Core.Bool.{Bool, true}
 use mathlib.Core.List.{List, [], _∷_, _++_}
 use Prim.Native.Nat.{ℕ, _+_, _-_, _*_, _/_, _%_, _^_, _≤_, _<_}
 use native.Mathlib.Omega.{arith}
-use lib.Dec.{ltb}
-use lib.ListN.{length, take, drop, length-append}
+use lib.ListN.{length, length-append}
 use lib.Seq.{take-at, drop-append-add}
-use borrow.Author.Tests.{eq-eqb, le-leb, lt-ltb, le-ltb}
-use Rattle.base.specs.Outcome.{Outcome, done, refused, need, andThen, given}
-use Rattle.base.proofs.Ladders.{never, need-yes}
-use Rattle.base.proofs.Bools.{cond-yes, cond-no}
+use borrow.Author.Tests.{eq-eqb}
+use Rattle.base.specs.Outcome.{done}
+use Rattle.base.proofs.Ladders.{never}
 use Rattle.octets.specs.Places.{digits}
 use Rattle.calendar.specs.Gregorian.{kind, row, monthLength, isDate}
 use Rattle.ascii.specs.declared.Layout.{Layout}
@@ -19,9 +17,10 @@ use Rattle.ascii.specs.Ascii.{ticksOf, codeText}
 use Rattle.seek.specs.declared.Tag.{Tag}
 use Rattle.seek.specs.Naming.{dayFits, clockFits}
 use Rattle.tag.specs.Forms.{Form, days, months, hours, minutes, find, shapeOf}
-use Rattle.tag.specs.Tags.{until, calendarAs, unzoned, timeIn, Timed, timed, tag, midnight, anyDay, aloneBy, alone, joined, formed, goodDay, goodClock, goodTag, tagOf}
+use Rattle.tag.specs.Tags.{until, calendarAs, unzoned, timeIn, Timed, timed, tag, midnight, anyDay, alone, joined, formed, goodDay, goodClock, tagOf}
 use Rattle.tag.specs.Shortening.{Shortening, calendar, time, both}
 use Rattle.tag.proofs.Shapes.{until-past}
+use Rattle.tag.proofs.Ladder.{joined-done, alone-day, alone-time, formed-joined, formed-alone, tag-done}
 use Rattle.tag.proofs.Subfields.{dated, calendar-of, clock-of, zone-of}
 use Rattle.tag.proofs.DatesForth.{Dated, date-forth}
 use Rattle.tag.proofs.TimesForth.{Timing, Ticking, time-forth, low-hour}
@@ -36,52 +35,35 @@ unfolding hours minutes shapeOf timeIn unzoned
 no-time k e = never 4 k e
 
 tag-by : (s : List ℕ) (t : Tag) → 1 ≤ length s → formed s ≡ done t → goodDay (t .calendar) ≡ true → goodClock (t .clock) ≡ true → tagOf s ≡ done t
-unfolding tagOf
-tag-by s t l e g h =
-    need-yes 1 _ (le-leb 1 (length s) l)
-    ∙ ap (λ (o : Outcome Tag). andThen o (λ t. need (goodTag t) 4 (done t))) e
-    ∙ rw (g, h)
+tag-by s t l e g h = sym (tag-done s l t e (rw (g, h)))
 
 -- no T: a calendar alone, or a time alone
-formed-alone : (s : List ℕ) → until 84 s ≡ length s → formed s ≡ alone s
-unfolding formed
-formed-alone s e = cond-no _ _ (le-ltb (until 84 s) (length s) (omega (arith, e)))
-
-alone-day : (s : List ℕ) (f : Form) → find (days ++ months) (shapeOf s) ≡ done f → alone s ≡ done (tag (calendarAs s f) midnight)
-unfolding alone
-alone-day s f e = ap (aloneBy s) e
-
-alone-time : (s : List ℕ) (k : Timed) → find (days ++ months) (shapeOf s) ≡ refused 4 → timeIn (hours ++ minutes) s ≡ done k → alone s ≡ done (tag anyDay k)
-unfolding alone
-alone-time s k e g = ap (aloneBy s) e ∙ ap (given (tag anyDay)) g
+without : (s : List ℕ) → until 84 s ≡ length s → formed s ≡ alone s
+without s e = sym (formed-alone s (until 84 s) refl (omega (arith, e)))
 
 pub day-alone : (n : ℕ) (c : List ℕ) (f : Form) → Dated n c f → tagOf c ≡ done (tag (calendarAs c f) midnight)
 unfolding goodClock
 day-alone n [] f d = no-text f (d .found)
-day-alone n (b ∷ c) f d = tag-by (b ∷ c) _ (omega arith) (formed-alone (b ∷ c) (d .plain) ∙ alone-day (b ∷ c) f (d .found)) (d .good) refl
+day-alone n (b ∷ c) f d = tag-by (b ∷ c) _ (omega arith) (without (b ∷ c) (d .plain) ∙ sym (alone-day (b ∷ c) f (d .found))) (d .good) refl
 
 pub time-alone : (b : Bool) (x k : ℕ) (s : List ℕ) (t : Ticking b x k s) → tagOf s ≡ done (tag anyDay (timed (t .alone .clock) k))
 unfolding goodDay isDate kind row monthLength
 time-alone b x k [] t = no-time _ (t .alone .told)
 time-alone b x k (c ∷ s) t =
-    tag-by (c ∷ s) _ (omega arith) (formed-alone (c ∷ s) (t .plain) ∙ alone-time (c ∷ s) _ (t .other) (t .alone .told)) refl (t .alone .good)
+    tag-by (c ∷ s) _ (omega arith) (without (c ∷ s) (t .plain) ∙ sym (alone-time (c ∷ s) (t .other) _ (t .alone .told))) refl (t .alone .good)
 
 -- a calendar and a time, joined by T
 formed-both : (c s : List ℕ) → until 84 c ≡ length c → formed (c ++ (84 ∷ s)) ≡ joined c s
-unfolding formed
 formed-both c s e =
     let w = c ++ (84 ∷ s) in
-    let u : until 84 w ≡ length c = until-past 84 c (84 ∷ s) e ∙ omega arith in
-    let l : length c < length w = omega (arith, length-append c (84 ∷ s)) in
-    ap (λ (t : ℕ). cond (ltb t (length w)) (joined (take t w) (drop (t + 1) w)) (alone w)) u
-    ∙ cond-yes _ _ (lt-ltb (length c) (length w) l)
+    let u : length c ≡ until 84 w = sym (until-past 84 c (84 ∷ s) e ∙ omega arith) in
+    sym (formed-joined w (length c) u (omega (arith, length-append c (84 ∷ s))))
     ∙ ap₂ joined (take-at c (84 ∷ s) (length c) refl) (drop-append-add c (84 ∷ s) 1)
 
 pub day-and-time : (n x k : ℕ) (c s : List ℕ) (f : Form) (d : Dated n c f) (t : Timing hours x k s) → find days (shapeOf c) ≡ done f → tagOf (c ++ (84 ∷ s)) ≡ done (tag (calendarAs c f) (timed (t .clock) k))
-unfolding joined
 day-and-time n x k c s f d t e =
     tag-by (c ++ (84 ∷ s)) _ (omega (arith, length-append c (84 ∷ s)))
-    (formed-both c s (d .plain) ∙ ap (λ (o : Outcome Form). andThen o (λ f. given (tag (calendarAs c f)) (timeIn hours s))) e ∙ ap (given (tag (calendarAs c f))) (t .told))
+    (formed-both c s (d .plain) ∙ sym (joined-done c s f e (timed (t .clock) k) (t .told)))
     (d .good) (t .good)
 
 -- ---- what remains of a full code
