@@ -1,0 +1,17 @@
+pub mod Settings
+pub mod Ranges
+pub mod Scale
+pub mod Counters
+pub mod Listings
+pub mod Numbers
+pub mod Promises
+pub mod Witnesses
+pub mod Rungs
+pub mod RungsScale
+pub mod RungsDays
+pub mod RungsCalendar
+pub mod RungsAscii
+pub mod RungsFields
+pub mod RungsBinary
+pub mod RungsTags
+pub mod RungsCalls

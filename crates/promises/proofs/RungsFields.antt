@@ -1,0 +1,292 @@
+-- The T-field of each code is refused by its rungs.
+use mathlib.Core.Path.{_≡_, refl, sym, ap, _∙_}
+use mathlib.Core.Bool.{Bool, true, false, cond, _&&_}
+use mathlib.Core.List.{List, [], _∷_}
+use Prim.Native.Nat.{ℕ, zero, suc, _+_, _-_, _/_, _≤_, _<_}
+use native.Mathlib.Nat.{add-zero, add-suc}
+use native.Mathlib.Omega.{arith}
+use lib.Dec.{leb, ltb, eqb}
+use lib.IntN.{ℤ, pos, _+ℤ_}
+use lib.ListN.{length, getD, drop}
+use lib.Seq.{getD-drop, drop-drop}
+use borrow.Author.Tests.{leb-true, le-leb, ltb-true, lt-ltb, eqb-true}
+use Rattle.base.specs.Outcome.{Outcome, done, need, andThen, given, status}
+use Rattle.base.proofs.Bools.{and-true, cond-yes}
+use Rattle.base.proofs.Ladders.{need-yes}
+use Rattle.scale.specs.Time.{Time}
+use Rattle.octets.specs.Places.{number, allGood, be, octetValue, octetGood, bcdValue, bcdGood}
+use Rattle.octets.specs.Counts.{countOf, countAt}
+use Rattle.octets.specs.Writes.{saysCounted}
+use Rattle.octets.proofs.Places.{all-good}
+use Rattle.octets.specs.declared.Counted.the-variants.{Done, Bad, Out}
+use Rattle.calendar.specs.Gregorian.{indexOfDate, indexOfOrdinal}
+use Rattle.clock.specs.Clock.{clockOf}
+use Rattle.clock.proofs.Laws.{shows}
+use Rattle.leap.specs.Builtin.{builtin}
+use Rattle.leap.specs.Utc.{secondOf, secondOfUtc}
+use Rattle.cuc.specs.Cuc as U
+use Rattle.cuc.specs.declared.Layout.{Layout as CucLayout}
+use Rattle.cuc.proofs.Layouts as UL
+use Rattle.cds.specs.Cds as D
+use Rattle.cds.specs.declared.Layout.{Layout as CdsLayout}
+use Rattle.cds.proofs.Laws as DL
+use Rattle.ccs.specs.Ccs as C
+use Rattle.ccs.specs.declared.Layout.{Layout as CcsLayout}
+use Rattle.ccs.proofs.Rungs as CR
+use Rattle.codes.specs.Reading.{fieldOf}
+use Rattle.codes.specs.declared.pfield.Layout.{Layout}
+use Rattle.codes.specs.declared.pfield.Layout.the-variants.{Cuc, Cds, Ccs}
+use Rattle.codes.proofs.Layouts.{isLayoutOf}
+use Rattle.promises.specs.RungsBinary.{countIn, pairsIn, milliIn, partIn, partGood, dateGood, indexIn, clockGood, secondIn, fieldGood, fieldRungs}
+use Rattle.promises.specs.Rungs.{rung, firstBroken}
+use Rattle.promises.proofs.Rungs.{and-one, climb, step, need-both, then-need, both-ways, status-given, given-climb}
+use Rattle.promises.proofs.RungsCalendar.{second-of-utc-rungs, index-second}
+
+-- ---- runs of elements
+-- two neighbouring runs are one
+and-assoc : (a b c : Bool) → a && b && c ≡ a && (b && c)
+and-assoc true b c = refl
+and-assoc false b c = refl
+
+good-split : (ok : ℕ → Bool) (s : List ℕ) (w k : ℕ) → allGood ok s (w + k) ≡ allGood ok s w && allGood ok (drop w s) k
+good-split ok s w zero = rw add-zero (and-one (allGood ok s w))
+good-split ok s w (suc k) = rw (add-suc, good-split ok s w k, getD-drop) (and-assoc (allGood ok s w) (allGood ok (drop w s) k) (ok (getD s (w + k) 0)))
+
+good-from : (ok : ℕ → Bool) (s : List ℕ) (at w k : ℕ) → allGood ok (drop at s) (w + k) ≡ allGood ok (drop at s) w && allGood ok (drop (at + w) s) k
+good-from ok s at w k =
+    good-split ok (drop at s) w k ∙ ap (λ (t : List ℕ). allGood ok (drop at s) w && allGood ok t k) (drop-drop w at s)
+
+-- the octets of a slice of bytes keep their rule, so that a count is never 4 of itself
+pub bytes-good : (s : List ℕ) (at w : ℕ) → ((i : ℕ) → getD s i 0 < 256) → allGood octetGood (drop at s) w ≡ true
+bytes-good s at w h = all-good octetGood (drop at s) w (λ i l. rw getD-drop (lt-ltb (getD s (at + i) 0) 256 (h (at + i))))
+
+-- a run that is not too wide: what runs out is 1, and then an element that breaks its rule 4
+module _ (b : ℕ) (v : ℕ → ℕ) (ok : ℕ → Bool) (widest : ℕ) (s : List ℕ) (at w : ℕ) (narrow : leb w widest ≡ true) where
+  pub run-climbs : saysCounted (countOf b v ok widest s at w) ≡ climb (rung 1 (leb (at + w) (length s)) ∷ rung 4 (allGood ok (drop at s) w) ∷ []) (number b v (drop at s) w)
+  unfolding countOf
+  run-climbs =
+      ap (λ (t : Bool). saysCounted (cond (t && leb (at + w) (length s)) (cond (allGood ok (drop at s) w) (Done (number b v (drop at s) w)) Bad) Out)) narrow
+      ∙ go (leb (at + w) (length s)) (allGood ok (drop at s) w)
+    where
+      go : (t g : Bool) → saysCounted (cond t (cond g (Done (number b v (drop at s) w)) Bad) Out) ≡ need t 1 (need g 4 (done (number b v (drop at s) w)))
+      go true true = refl
+      go true false = refl
+      go false g = refl
+
+  -- one that is there
+  pub run-there : leb (at + w) (length s) ≡ true → saysCounted (countOf b v ok widest s at w) ≡ need (allGood ok (drop at s) w) 4 (done (number b v (drop at s) w))
+  run-there h = run-climbs ∙ need-yes 1 _ h
+
+  -- and what comes after it
+  pub run-then : {B : Type 0} (k : ℕ → Outcome B) → leb (at + w) (length s) ≡ true → andThen (saysCounted (countOf b v ok widest s at w)) k ≡ need (allGood ok (drop at s) w) 4 (k (number b v (drop at s) w))
+  run-then k h =
+      ap (λ (y : Outcome ℕ). andThen y k) (run-there h) ∙ then-need (allGood ok (drop at s) w) 4 (number b v (drop at s) w) k
+
+-- ---- CUC
+pub cuc-climbs : (s : List ℕ) (at : ℕ) (l : CucLayout) → U.isLayout l ≡ true → U.field s at l ≡ climb (rung 1 (leb (at + (l .coarse + l .fine)) (length s)) ∷ rung 4 (allGood octetGood (drop at s) (l .coarse + l .fine)) ∷ []) (U.timeOf l (countIn s at (l .coarse + l .fine)))
+unfolding U.field
+cuc-climbs s at l h =
+    let g = UL.layout-good l h in
+    let w = l .coarse + l .fine in
+    need-yes 3 _ h
+    ∙ ap (λ (n : ℕ). given (U.timeOf l) (saysCounted (countAt s at n))) (UL.width-is l h)
+    ∙ ap (given (U.timeOf l)) (run-climbs 256 octetValue octetGood 8 s at w (le-leb w 8 (omega (arith, g .narrow, g .short))))
+    ∙ given-climb (U.timeOf l) (rung 1 (leb (at + w) (length s)) ∷ rung 4 (allGood octetGood (drop at s) w) ∷ []) (countIn s at w)
+
+cuc-rungs : (s : List ℕ) (at : ℕ) (l : CucLayout) → U.isLayout l ≡ true → status (U.field s at l) ≡ firstBroken (fieldRungs s at (Cuc l))
+cuc-rungs s at l h =
+    let w = l .coarse + l .fine in
+    ap status (cuc-climbs s at l h)
+    ∙ step (leb (at + w) (length s)) 1 _ _ (λ t. step (allGood octetGood (drop at s) w) 4 _ _ (λ g. refl))
+
+-- ---- CDS
+lt-le : (p n : ℕ) → ltb p (suc n) ≡ leb p n
+lt-le p n =
+    both-ways (ltb p (suc n)) (leb p n) (λ h. le-leb p n (omega (arith, ltb-true p (suc n) h))) (λ h. lt-ltb p (suc n) (omega (arith, leb-true p n h)))
+
+part-is : (w : ℕ) (s : List ℕ) → ltb (be s w) (D.parts w) ≡ partGood w (be s w)
+part-is w s = go (eqb w 0) (eqb w 2) refl
+  where
+    go : (a b : Bool) → eqb w 0 ≡ a → ltb (be s w) (cond a 1 (cond b 1000 1000000000)) ≡ cond a true (cond b (leb (be s w) 999) (leb (be s w) 999999999))
+    go true b e = let z : w ≡ 0 = eqb-true w 0 e in rw z
+    go false true e = lt-le (be s w) 999
+    go false false e = lt-le (be s w) 999999999
+
+needs-five : {A : Type 0} (a b c d e : Bool) (n : ℕ) (x : Outcome A) → need a n (need b n (need c n (need d n (need e n x)))) ≡ need (a && b && c && (d && e)) n x
+needs-five true true true true e n x = refl
+needs-five true true true false e n x = refl
+needs-five true true false d e n x = refl
+needs-five true false c d e n x = refl
+needs-five false b c d e n x = refl
+
+module _ (s : List ℕ) (at : ℕ) (l : CdsLayout) (h : D.isLayout l ≡ true) where
+  octets-good : allGood octetGood (drop at s) (l .day) && allGood octetGood (drop (at + l .day) s) 4 && allGood octetGood (drop (at + l .day + 4) s) (l .part) ≡ allGood octetGood (drop at s) (l .day + 4 + l .part)
+  octets-good =
+      let e : at + (l .day + 4) ≡ at + l .day + 4 = omega arith in
+      sym (good-from octetGood s at (l .day + 4) (l .part)
+      ∙ ap (λ (n : ℕ). allGood octetGood (drop at s) (l .day + 4) && allGood octetGood (drop n s) (l .part)) e
+      ∙ ap (λ (t : Bool). t && allGood octetGood (drop (at + l .day + 4) s) (l .part)) (good-from octetGood s at (l .day) 4))
+
+  moment-at : ℤ → Time
+  moment-at z = record { sec = z; ticks = D.fraction (l .part) (milliIn s at l) (partIn s at l) }
+
+  cds-moment : leb (at + (l .day + 4 + l .part)) (length s) ≡ true
+      → andThen (saysCounted (countAt s at (l .day))) (λ d. andThen (saysCounted (countAt s (at + l .day) 4)) (λ m. andThen (saysCounted (countAt s (at + l .day + 4) (l .part))) (λ p. D.timed builtin l d m p)))
+      ≡ need (fieldGood s at (Cds l)) 4 (given moment-at (secondOfUtc builtin (l .epoch +ℤ pos (countIn s at (l .day))) (milliIn s at l / 1000)))
+  unfolding D.timed moment-at
+  cds-moment t =
+      let g = DL.layout-good l h in
+      let k : at + (l .day + 4 + l .part) ≤ length s = leb-true _ _ t in
+      let g1 = allGood octetGood (drop at s) (l .day) in
+      let g2 = allGood octetGood (drop (at + l .day) s) 4 in
+      let g3 = allGood octetGood (drop (at + l .day + 4) s) (l .part) in
+      let x = given moment-at (secondOfUtc builtin (l .epoch +ℤ pos (countIn s at (l .day))) (milliIn s at l / 1000)) in
+      run-then 256 octetValue octetGood 8 s at (l .day) (le-leb (l .day) 8 (omega (arith, g .day)))
+      (λ d. andThen (saysCounted (countAt s (at + l .day) 4)) (λ m. andThen (saysCounted (countAt s (at + l .day + 4) (l .part))) (λ p. D.timed builtin l d m p)))
+      (le-leb (at + l .day) (length s) (omega arith))
+      ∙ ap (need g1 4) (run-then 256 octetValue octetGood 8 s (at + l .day) 4 refl
+      (λ m. andThen (saysCounted (countAt s (at + l .day + 4) (l .part))) (λ p. D.timed builtin l (countIn s at (l .day)) m p))
+      (le-leb (at + l .day + 4) (length s) (omega arith)))
+      ∙ ap (λ (y : Outcome Time). need g1 4 (need g2 4 y)) (run-then 256 octetValue octetGood 8 s (at + l .day + 4) (l .part) (le-leb (l .part) 8 (omega (arith, g .part)))
+      (λ p. D.timed builtin l (countIn s at (l .day)) (milliIn s at l) p)
+      (le-leb (at + l .day + 4 + l .part) (length s) (omega arith)))
+      ∙ needs-five g1 g2 g3 (leb (milliIn s at l) 86400999) (ltb (partIn s at l) (D.parts (l .part))) 4 x
+      ∙ ap (λ (b : Bool). need (b && (leb (milliIn s at l) 86400999 && ltb (partIn s at l) (D.parts (l .part)))) 4 x) octets-good
+      ∙ ap (λ (b : Bool). need (allGood octetGood (drop at s) (l .day + 4 + l .part) && (leb (milliIn s at l) 86400999 && b)) 4 x) (part-is (l .part) (drop (at + l .day + 4) s))
+
+  cds-rungs : status (D.field s at l) ≡ firstBroken (fieldRungs s at (Cds l))
+  unfolding D.fieldBy
+  cds-rungs =
+      let z = l .epoch +ℤ pos (countIn s at (l .day)) in
+      let m = milliIn s at l in
+      ap status (need-yes 3 _ h)
+      ∙ ap (λ (w : ℕ). status (need (leb (at + w) (length s)) 1 rest)) (DL.width-is l h)
+      ∙ step (leb (at + (l .day + 4 + l .part)) (length s)) 1 _ _ (λ t.
+      ap status (cds-moment t)
+      ∙ step (fieldGood s at (Cds l)) 4 _ _ (λ g.
+      status-given moment-at (secondOfUtc builtin z (m / 1000))
+      ∙ second-of-utc-rungs z (m / 1000)
+      ∙ cond-yes _ 4 (le-leb (m / 1000) 86400 (omega (arith, low g)))))
+    where
+      rest : Outcome Time
+      rest = andThen (saysCounted (countAt s at (l .day))) (λ d. andThen (saysCounted (countAt s (at + l .day) 4)) (λ m. andThen (saysCounted (countAt s (at + l .day + 4) (l .part))) (λ p. D.timed builtin l d m p)))
+
+      low : fieldGood s at (Cds l) ≡ true → milliIn s at l ≤ 86400999
+      low g =
+          let (a, b) = and-true (allGood octetGood (drop at s) (l .day + 4 + l .part)) _ g in
+          leb-true _ _ (and-true (leb (milliIn s at l) 86400999) _ b .0)
+
+-- ---- CCS
+pairs-then : {B : Type 0} (s : List ℕ) (at w : ℕ) → leb w 9 ≡ true → (k : ℕ → Outcome B) → at + w ≤ length s → andThen (C.pairs s at w) k ≡ need (allGood bcdGood (drop at s) w) 4 (k (pairsIn s at w))
+pairs-then s at w n k t = run-then 100 bcdValue bcdGood 9 s at w n k (le-leb (at + w) (length s) t)
+
+date-climbs : (o : Bool) (s : List ℕ) (at : ℕ) → at + 4 ≤ length s → C.dayAt o s at ≡ need (allGood bcdGood (drop at s) 4 && dateGood o s at) 4 (done (indexIn o s at))
+unfolding C.dayAt indexOfOrdinal indexOfDate
+date-climbs true s at t =
+    let a = allGood bcdGood (drop at s) 2 in
+    let b = allGood bcdGood (drop (at + 2) s) 2 in
+    let x = done (indexIn true s at) in
+    pairs-then s at 2 refl (λ y. andThen (C.pairs s (at + 2) 2) (λ d. indexOfOrdinal y d)) (omega arith)
+    ∙ ap (need a 4) (pairs-then s (at + 2) 2 refl (λ d. indexOfOrdinal (pairsIn s at 2) d) (omega arith))
+    ∙ need-both a b 4 _
+    ∙ need-both (a && b) (dateGood true s at) 4 x
+    ∙ ap (λ (g : Bool). need (g && dateGood true s at) 4 x) (sym (good-from bcdGood s at 2 2))
+date-climbs false s at t =
+    let a = allGood bcdGood (drop at s) 2 in
+    let b = allGood bcdGood (drop (at + 2) s) 1 in
+    let c = allGood bcdGood (drop (at + 3) s) 1 in
+    let x = done (indexIn false s at) in
+    pairs-then s at 2 refl (λ y. andThen (C.pairs s (at + 2) 1) (λ m. andThen (C.pairs s (at + 3) 1) (λ d. indexOfDate y m d))) (omega arith)
+    ∙ ap (need a 4) (pairs-then s (at + 2) 1 refl (λ m. andThen (C.pairs s (at + 3) 1) (λ d. indexOfDate (pairsIn s at 2) m d)) (omega arith))
+    ∙ need-both a b 4 _
+    ∙ ap (need (a && b) 4) (pairs-then s (at + 3) 1 refl (λ d. indexOfDate (pairsIn s at 2) (pairsIn s (at + 2) 1) d) (omega arith))
+    ∙ need-both (a && b) c 4 _
+    ∙ need-both (a && b && c) (dateGood false s at) 4 x
+    ∙ ap (λ (g : Bool). need (g && c && dateGood false s at) 4 x) (sym (good-from bcdGood s at 2 1))
+    ∙ ap (λ (g : Bool). need (g && dateGood false s at) 4 x) (sym (good-from bcdGood s at 3 1))
+
+clock-climbs : (s : List ℕ) (at : ℕ) → at + 3 ≤ length s → C.clockAt s at ≡ need (allGood bcdGood (drop at s) 3 && clockGood s at) 4 (done (secondIn s at))
+unfolding C.clockAt
+clock-climbs s at t =
+    let a = allGood bcdGood (drop at s) 1 in
+    let b = allGood bcdGood (drop (at + 1) s) 1 in
+    let c = allGood bcdGood (drop (at + 2) s) 1 in
+    let x = done (secondIn s at) in
+    pairs-then s at 1 refl (λ h. andThen (C.pairs s (at + 1) 1) (λ m. andThen (C.pairs s (at + 2) 1) (λ x. clockOf h m x))) (omega arith)
+    ∙ ap (need a 4) (pairs-then s (at + 1) 1 refl (λ m. andThen (C.pairs s (at + 2) 1) (λ x. clockOf (pairsIn s at 1) m x)) (omega arith))
+    ∙ need-both a b 4 _
+    ∙ ap (need (a && b) 4) (pairs-then s (at + 2) 1 refl (λ x. clockOf (pairsIn s at 1) (pairsIn s (at + 1) 1) x) (omega arith))
+    ∙ need-both (a && b) c 4 _
+    ∙ need-both (a && b && c) (clockGood s at) 4 x
+    ∙ ap (λ (g : Bool). need (g && c && clockGood s at) 4 x) (sym (good-from bcdGood s at 1 1))
+    ∙ ap (λ (g : Bool). need (g && clockGood s at) 4 x) (sym (good-from bcdGood s at 2 1))
+
+-- digits first, then ranges
+sorted : {A : Type 0} (a d b c f : Bool) (n : ℕ) (x : Outcome A) → need (a && d) n (need (b && c) n (need f n x)) ≡ need (a && b && f && (d && c)) n x
+sorted true true true true true n x = refl
+sorted true true true true false n x = refl
+sorted true true true false true n x = refl
+sorted true true true false false n x = refl
+sorted true true false c f n x = refl
+sorted true false true c true n x = refl
+sorted true false true c false n x = refl
+sorted true false false c f n x = refl
+sorted false d b c f n x = refl
+
+module _ (s : List ℕ) (at : ℕ) (l : CcsLayout) (h : C.isLayout l ≡ true) where
+  pairs-good : allGood bcdGood (drop at s) 4 && allGood bcdGood (drop (at + 4) s) 3 && allGood bcdGood (drop (at + 7) s) (l .segments) ≡ allGood bcdGood (drop at s) (7 + l .segments)
+  pairs-good =
+      sym (good-from bcdGood s at 7 (l .segments)
+      ∙ ap (λ (t : Bool). t && allGood bcdGood (drop (at + 7) s) (l .segments)) (good-from bcdGood s at 4 3))
+
+  part-at : ℕ
+  part-at = pairsIn s (at + 7) (l .segments)
+
+  ccs-moment : leb (at + (7 + l .segments)) (length s) ≡ true
+      → andThen (C.dayAt (l .ordinal) s at) (λ d. andThen (C.clockAt s (at + 4)) (λ x. andThen (C.pairs s (at + 7) (l .segments)) (λ f. C.timeOf builtin (l .segments) d x f)))
+      ≡ need (fieldGood s at (Ccs l)) 4 (C.timeOf builtin (l .segments) (indexIn (l .ordinal) s at) (secondIn s (at + 4)) part-at)
+  unfolding part-at
+  ccs-moment t =
+      let few : l .segments ≤ 6 = leb-true _ _ h in
+      let k : at + (7 + l .segments) ≤ length s = leb-true _ _ t in
+      let n = indexIn (l .ordinal) s at in
+      let z = secondIn s (at + 4) in
+      let a = allGood bcdGood (drop at s) 4 in
+      let b = allGood bcdGood (drop (at + 4) s) 3 in
+      let f = allGood bcdGood (drop (at + 7) s) (l .segments) in
+      let d = dateGood (l .ordinal) s at in
+      let c = clockGood s (at + 4) in
+      let x = C.timeOf builtin (l .segments) n z part-at in
+      ap (λ (y : Outcome ℕ). andThen y (λ d. andThen (C.clockAt s (at + 4)) (λ x. andThen (C.pairs s (at + 7) (l .segments)) (λ f. C.timeOf builtin (l .segments) d x f)))) (date-climbs (l .ordinal) s at (omega arith))
+      ∙ then-need (a && d) 4 n (λ d. andThen (C.clockAt s (at + 4)) (λ x. andThen (C.pairs s (at + 7) (l .segments)) (λ f. C.timeOf builtin (l .segments) d x f)))
+      ∙ ap (λ (y : Outcome ℕ). need (a && d) 4 (andThen y (λ x. andThen (C.pairs s (at + 7) (l .segments)) (λ f. C.timeOf builtin (l .segments) n x f)))) (clock-climbs s (at + 4) (omega arith))
+      ∙ ap (need (a && d) 4) (then-need (b && c) 4 z (λ x. andThen (C.pairs s (at + 7) (l .segments)) (λ f. C.timeOf builtin (l .segments) n x f)))
+      ∙ ap (λ (y : Outcome Time). need (a && d) 4 (need (b && c) 4 y)) (pairs-then s (at + 7) (l .segments) (le-leb (l .segments) 9 (omega arith)) (λ f. C.timeOf builtin (l .segments) n z f) (omega arith))
+      ∙ sorted a d b c f 4 x
+      ∙ ap (λ (g : Bool). need (g && (d && c)) 4 x) pairs-good
+
+  ccs-rungs : status (C.field s at l) ≡ firstBroken (fieldRungs s at (Ccs l))
+  unfolding C.fieldBy C.timeOf
+  ccs-rungs =
+      ap status (need-yes 3 _ h)
+      ∙ ap (λ (w : ℕ). status (need (leb (at + w) (length s)) 1 rest)) (CR.width-is l (leb-true _ _ h))
+      ∙ step (leb (at + (7 + l .segments)) (length s)) 1 _ _ (λ t.
+      ap status (ccs-moment t)
+      ∙ step (fieldGood s at (Ccs l)) 4 _ _ (λ g.
+      status-given (C.time (l .segments) part-at) (secondOf builtin (indexIn (l .ordinal) s at) (secondIn s (at + 4)))
+      ∙ index-second (indexIn (l .ordinal) s at) (secondIn s (at + 4)) (low g)))
+    where
+      rest : Outcome Time
+      rest = andThen (C.dayAt (l .ordinal) s at) (λ d. andThen (C.clockAt s (at + 4)) (λ x. andThen (C.pairs s (at + 7) (l .segments)) (λ f. C.timeOf builtin (l .segments) d x f)))
+
+      low : fieldGood s at (Ccs l) ≡ true → leb (secondIn s (at + 4)) 86400 ≡ true
+      low g =
+          let (a, b) = and-true (allGood bcdGood (drop at s) (7 + l .segments)) _ g in
+          let (c, d) = and-true (dateGood (l .ordinal) s at) _ b in
+          le-leb (secondIn s (at + 4)) 86400 (shows (pairsIn s (at + 4) 1) (pairsIn s (at + 4 + 1) 1) (pairsIn s (at + 4 + 2) 1) d .low)
+
+-- ---- whichever the code is
+pub field-rungs : (s : List ℕ) (at : ℕ) (l : Layout) → isLayoutOf l ≡ true → status (fieldOf s at l) ≡ firstBroken (fieldRungs s at l)
+field-rungs s at (Cuc l) h = cuc-rungs s at l h
+field-rungs s at (Cds l) h = cds-rungs s at l h
+field-rungs s at (Ccs l) h = ccs-rungs s at l h

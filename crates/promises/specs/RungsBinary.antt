@@ -1,0 +1,167 @@
+-- Binary codes, read and written (document 01: "Order when reading: missing P 1, then 2, 3, epoch 7 (only if the code uses one), short T 1, 4, 5, 6. Writing: record 7, then 2, 3, epoch 7, cover 5 (UTC codes only), target 7, room 8").
+use mathlib.Core.Bool.{Bool, true, false, cond, _&&_, _||_}
+use mathlib.Core.List.{List, [], _∷_, _++_}
+use Prim.Native.Nat.{ℕ, _+_, _-_, _*_, _/_, _%_, _^_}
+use lib.Dec.{leb, ltb, eqb}
+use lib.IntN.{ℤ, pos, negℤ, natAbs, _+ℤ_, _-ℤ_}
+use lib.ListN.{length, getD, drop}
+use Rattle.base.specs.Parts.{within}
+use Rattle.scale.specs.Time.{Time, isRecord}
+use Rattle.octets.specs.Places.{be, octetGood, bcdOf, bcdGood, allGood}
+use Rattle.calendar.specs.Gregorian.{isDate, isOrdinal, dayIndex, dayOfYear, fromEpoch}
+use Rattle.clock.specs.Clock.{clockOk, secondOfDay}
+use Rattle.leap.specs.Table.{dayHolding}
+use Rattle.leap.specs.Builtin.{builtin}
+use Rattle.leap.specs.Utc.{secondRaise}
+use Rattle.cuc.specs.Cuc.{isEpoch, holds}
+use Rattle.cuc.specs.declared.Layout as U
+use Rattle.cds.specs.declared.Layout as D
+use Rattle.ccs.specs.declared.Layout as C
+use Rattle.codes.specs.PField.{ident, known, bit4}
+use Rattle.codes.specs.declared.Preamble.{Preamble}
+use Rattle.codes.specs.declared.Preamble.the-variants.{Front, Given}
+use Rattle.codes.specs.declared.pfield.Layout.{Layout}
+use Rattle.codes.specs.declared.pfield.Layout.the-variants.{Cuc, Cds, Ccs}
+use Rattle.promises.specs.Rungs.{Rung, rung}
+use Rattle.promises.specs.RungsCalendar.{coveredDay, coveredSecond, hasSecond}
+
+-- ---- the P octet: "read from the front or supplied by the caller apart"
+abbrev pub octetThere : List ℕ → Preamble → Bool
+octetThere s Front = leb 1 (length s)
+octetThere s (Given o) = true
+
+abbrev pub octetIn : List ℕ → Preamble → ℕ
+octetIn s Front = getD s 0 0
+octetIn s (Given o) = o
+
+-- where the T-field begins
+abbrev pub fieldAt : Preamble → ℕ
+fieldAt Front = 1
+fieldAt (Given o) = 0
+
+-- by its identification: CCS 101, CDS 100, and else CUC, once "identification 000, 011, 110, 111" are refused
+abbrev pub byCode : {A : Type 0} → ℕ → A → A → A → A
+byCode o cuc cds ccs = cond (eqb (ident o) 5) ccs (cond (eqb (ident o) 4) cds cuc)
+
+-- "extension bit set, CDS 11, CCS 7" are 3
+abbrev pub supported : ℕ → Bool
+supported o = ltb o 128 && byCode o true (ltb (o % 4) 3) (ltb (o % 8) 7)
+
+-- "caller's epoch day (-2^24 to 2^24 - 1)"
+abbrev pub isEpochDay : ℤ → Bool
+isEpochDay e = within (negℤ (pos (2 ^ 24))) (pos (2 ^ 24 - 1)) e
+
+-- "epoch 7 (only if the code uses one)": CUC 001 and a CDS whose bit 4 is 0 count from 1958, and CCS has none
+abbrev pub epochGood : ℕ → ℤ → Bool
+epochGood o e = byCode o (eqb (ident o) 1 || isEpoch e) (eqb (bit4 o) 0 || isEpochDay e) true
+
+abbrev pub octetRungs : ℕ → ℤ → List Rung
+octetRungs o e = rung 2 (known (ident o)) ∷ rung 3 (supported o) ∷ rung 7 (epochGood o e) ∷ []
+
+-- ---- the layout that a P octet gives: said of one that is not refused
+abbrev pub cucOf : ℕ → ℤ → U.Layout
+cucOf o e = record { epoch = cond (eqb (ident o) 1) (pos 0) e; coarse = o / 4 % 4 + 1; fine = o % 4 }
+
+abbrev pub cdsOf : ℕ → ℤ → D.Layout
+cdsOf o e = record { epoch = cond (eqb (bit4 o) 0) (pos 0) e; day = o / 4 % 2 + 2; part = o % 4 * 2 }
+
+abbrev pub ccsOf : ℕ → C.Layout
+ccsOf o = record { ordinal = eqb (bit4 o) 1; segments = o % 8 }
+
+abbrev pub layoutOf : ℕ → ℤ → Layout
+layoutOf o e = byCode o (Cuc (cucOf o e)) (Cds (cdsOf o e)) (Ccs (ccsOf o))
+
+-- the octets of its T-field: coarse and fine; day, millisecond of day and remainder; year, date, clock and segments
+abbrev pub octetsOf : Layout → ℕ
+octetsOf (Cuc l) = l .coarse + l .fine
+octetsOf (Cds l) = l .day + 4 + l .part
+octetsOf (Ccs l) = 7 + l .segments
+
+-- ---- the fields of a T-field from `at` on: said of one that is all there
+abbrev pub countIn : List ℕ → ℕ → ℕ → ℕ
+countIn s at w = be (drop at s) w
+
+abbrev pub pairsIn : List ℕ → ℕ → ℕ → ℕ
+pairsIn s at w = bcdOf (drop at s) w
+
+abbrev pub milliIn : List ℕ → ℕ → D.Layout → ℕ
+milliIn s at l = countIn s (at + l .day) 4
+
+abbrev pub partIn : List ℕ → ℕ → D.Layout → ℕ
+partIn s at l = countIn s (at + l .day + 4) (l .part)
+
+-- "microsecond of millisecond (16 bits, 0 to 999) .. picosecond of millisecond (32 bits, 0 to 999,999,999)"
+abbrev pub partGood : ℕ → ℕ → Bool
+partGood w p = cond (eqb w 0) true (cond (eqb w 2) (leb p 999) (leb p 999999999))
+
+-- the year and the date: "0 month and day, 1 day of year (16 bits, top four zero)", and no year has a day from 1000 on
+abbrev pub dateGood : Bool → List ℕ → ℕ → Bool
+dateGood true s at = isOrdinal (pairsIn s at 2) (pairsIn s (at + 2) 2)
+dateGood false s at = isDate (pairsIn s at 2) (pairsIn s (at + 2) 1) (pairsIn s (at + 3) 1)
+
+abbrev pub indexIn : Bool → List ℕ → ℕ → ℕ
+indexIn true s at = dayIndex (pairsIn s at 2) (pairsIn s (at + 2) 2)
+indexIn false s at = dayIndex (pairsIn s at 2) (dayOfYear (pairsIn s at 2) (pairsIn s (at + 2) 1) (pairsIn s (at + 3) 1))
+
+abbrev pub clockGood : List ℕ → ℕ → Bool
+clockGood s at = clockOk (pairsIn s at 1) (pairsIn s (at + 1) 1) (pairsIn s (at + 2) 1)
+
+abbrev pub secondIn : List ℕ → ℕ → ℕ
+secondIn s at = secondOfDay (pairsIn s at 1) (pairsIn s (at + 1) 1) (pairsIn s (at + 2) 1)
+
+-- "a field, BCD digit .. breaks its rule" is 4. A count's octets are below 256, as all that a slice of bytes holds; CUC has no other rule. "millisecond of day (32 bits, 0 to 86,400,999)"
+abbrev pub fieldGood : List ℕ → ℕ → Layout → Bool
+fieldGood s at (Cuc l) = allGood octetGood (drop at s) (l .coarse + l .fine)
+fieldGood s at (Cds l) = allGood octetGood (drop at s) (l .day + 4 + l .part) && (leb (milliIn s at l) 86400999 && partGood (l .part) (partIn s at l))
+fieldGood s at (Ccs l) = allGood bcdGood (drop at s) (7 + l .segments) && (dateGood (l .ordinal) s at && clockGood s (at + 4))
+
+-- the UTC day that the field names is in the table; CUC names no UTC day
+abbrev pub dayGood : List ℕ → ℕ → Layout → Bool
+dayGood s at (Cuc l) = true
+dayGood s at (Cds l) = coveredDay (l .epoch +ℤ pos (countIn s at (l .day)))
+dayGood s at (Ccs l) = coveredDay (fromEpoch (indexIn (l .ordinal) s at))
+
+-- "a second 60 (or millisecond from 86,400,000) on a day without one"
+abbrev pub secondGood : List ℕ → ℕ → Layout → Bool
+secondGood s at (Cuc l) = true
+secondGood s at (Cds l) = hasSecond (l .epoch +ℤ pos (countIn s at (l .day))) (milliIn s at l / 1000)
+secondGood s at (Ccs l) = hasSecond (fromEpoch (indexIn (l .ordinal) s at)) (secondIn s (at + 4))
+
+abbrev pub fieldRungs : List ℕ → ℕ → Layout → List Rung
+fieldRungs s at l =
+    rung 1 (leb (at + octetsOf l) (length s)) ∷
+    rung 4 (fieldGood s at l) ∷
+    rung 5 (dayGood s at l) ∷
+    rung 6 (secondGood s at l) ∷ []
+
+abbrev pub readBinaryRungs : List ℕ → Preamble → ℤ → List Rung
+readBinaryRungs s p e =
+    rung 1 (octetThere s p) ∷ (octetRungs (octetIn s p) e ++ fieldRungs s (fieldAt p) (layoutOf (octetIn s p) e))
+
+-- ---- writing
+-- "cover 5 (UTC codes only)"
+abbrev pub sourceGood : Layout → Time → Bool
+sourceGood (Cuc l) r = true
+sourceGood (Cds l) r = coveredSecond (r .sec)
+sourceGood (Ccs l) r = coveredSecond (r .sec)
+
+-- the UTC day of a covered second
+abbrev pub utcDay : ℤ → ℤ
+utcDay z = fromEpoch (dayHolding builtin (natAbs (z +ℤ pos secondRaise)))
+
+-- "A target holds a source when its count of whole seconds from the epoch, taken downward (CUC), or of UTC days from the epoch (CDS), is not negative and fits the field. CCS and ASCII hold every covered moment"
+abbrev pub targetGood : Layout → Time → Bool
+targetGood (Cuc l) r = holds l r
+targetGood (Cds l) r = within (pos 0) (pos (256 ^ l .day - 1)) (utcDay (r .sec) -ℤ l .epoch)
+targetGood (Ccs l) r = true
+
+-- the octets of the code: the P octet's, where it is written, and the T-field's
+abbrev pub codeOctets : Bool → Layout → ℕ
+codeOctets front l = cond front 1 0 + octetsOf l
+
+abbrev pub targetRungs : Layout → Time → Bool → List ℕ → List Rung
+targetRungs l r front out =
+    rung 5 (sourceGood l r) ∷ rung 7 (targetGood l r) ∷ rung 8 (leb (codeOctets front l) (length out)) ∷ []
+
+abbrev pub writeBinaryRungs : Time → ℕ → ℤ → Bool → List ℕ → List Rung
+writeBinaryRungs r o e front out = rung 7 (isRecord r) ∷ (octetRungs o e ++ targetRungs (layoutOf o e) r front out)
