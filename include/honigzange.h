@@ -26,8 +26,8 @@
  * TEXT. Text is bytes and a length, read and written. It is NOT terminated by a NUL: a written text ends after
  * as many bytes as the call says, and a NUL that is read is a character like any other, and refused.
  *
- * No function allocates, keeps a pointer, or keeps state: all may be called from any threads at once, as
- * long as no two calls share memory that one of them writes.
+ * STATE. No function allocates, keeps a pointer, or keeps state: all may be called from any threads at once, as
+ * long as no two calls share memory that one of them writes. The library needs no other library.
  */
 #ifndef HONIGZANGE_H
 #define HONIGZANGE_H
@@ -43,15 +43,25 @@ extern "C" {
 /* Ticks of a second: 2^-24 s is 244140625 ticks, and a picosecond is 4096. */
 #define HZ_TICKS UINT64_C(4096000000000000)
 
-/* The first and the last day number of the calendar: 0001-01-01 and 9999-12-31. */
+/* The first day number of the calendar: 0001-01-01. */
 #define HZ_FIRST_DAY (-INT64_C(714779))
+
+/* The last day number of the calendar: 9999-12-31. */
 #define HZ_LAST_DAY INT64_C(2937279)
+
+/* The table of leap seconds covers the TAI seconds from this one on: 1972-01-01T00:00:00 UTC. */
+#define HZ_COVER_START INT64_C(441763210)
+
+/* The table of leap seconds covers the TAI seconds before this one: the first after 2025-12-31 UTC. */
+#define HZ_COVER_END INT64_C(2145916837)
 
 /* Bytes that hold any binary code, its P octet in front: at most 8 for CUC, 12 for CDS and 14 for CCS. */
 #define HZ_BINARY_ROOM 14
 
-/* Bytes that hold any ASCII code, and bytes that hold what hz_write_wall writes. There is no NUL among them. */
+/* Bytes that hold any ASCII code. There is no NUL among them. */
 #define HZ_ASCII_ROOM 33
+
+/* Bytes that hold what hz_write_wall writes. There is no NUL among them. */
 #define HZ_WALL_ROOM 24
 
 /* Refusal numbers. */
@@ -64,6 +74,26 @@ extern "C" {
 #define HZ_RANGE 7          /* invalid record, span or epoch; sum or day number out of range; target can't hold it */
 #define HZ_ROOM 8           /* output too short */
 #define HZ_WINDOW 9         /* window's end before its start */
+
+/*
+ * A short text for an answer: "done" for 0, and for a refusal number what it means. It is a constant string,
+ * made by the preprocessor, so that nothing is linked. The number is evaluated more than once.
+ *
+ *     if (refusal != 0)
+ *         printf("refused %d: %s\n", refusal, HZ_MEANING(refusal));
+ */
+#define HZ_MEANING(number)                                                         \
+    ((number) == 0                   ? "done"                                      \
+     : (number) == HZ_SHORT          ? "input too short"                           \
+     : (number) == HZ_IDENTIFICATION ? "no time code of this identification"       \
+     : (number) == HZ_UNSUPPORTED    ? "unsupported variation of the code"         \
+     : (number) == HZ_FIELD          ? "a field breaks its rule"                   \
+     : (number) == HZ_UNCOVERED      ? "UTC day outside the table of leap seconds" \
+     : (number) == HZ_NO_SUCH_SECOND ? "no leap second on this day"                \
+     : (number) == HZ_RANGE          ? "out of range"                              \
+     : (number) == HZ_ROOM           ? "output too short"                          \
+     : (number) == HZ_WINDOW         ? "window's end before its start"             \
+                                     : "no refusal number")
 
 /*
  * The span a - b, exactly: hz_shift of b by it gives a.
@@ -174,15 +204,18 @@ uint8_t hz_second_of_utc(int64_t day, uint64_t second_of_day, int64_t *sec);
  * BINARY CODES. A code is a T-field, and a P octet that says how it is laid out. The P octet stands in front
  * of the T-field or is known to both ends. Its bit 0 is the most significant:
  *
- *   bit    CUC                        CDS                              CCS
- *   0      0                          0                                0
- *   1-3    001 epoch 1958             100                              101
- *          010 the caller's epoch
- *   4      coarse octets less one,    0 epoch 1958,                    0 month and day,
- *          bits 4-5: 1 to 4 octets    1 the caller's epoch             1 day of the year
- *   5                                 0 day in 16 bits, 1 in 24        segments of the fraction,
- *   6-7    fine octets, 0 to 3        00 no remainder, 01 microsecond  bits 5-7: 0 to 6
- *                                     10 picosecond, 11 refused        (7 refused)
+ *   bit  CUC                   CDS                   CCS
+ *   0    0                     0                     0
+ *   1-3  001 epoch 1958        100                   101
+ *        010 caller's epoch
+ *   4    coarse octets         0 epoch 1958          0 month and day
+ *        less one, bits 4-5    1 caller's epoch      1 day of the year
+ *   5                          0 day in 16 bits      two-digit segments
+ *                              1 day in 24 bits      of the fraction,
+ *   6-7  fine octets, 0 to 3   00 no remainder       bits 5-7: 0 to 6
+ *                              01 microsecond        (7 refused)
+ *                              10 picosecond
+ *                              11 refused
  *
  * CUC counts TAI, the others show UTC. Counts are big-endian. The T-field:
  *
@@ -368,6 +401,8 @@ uint8_t hz_write_wall(int64_t sec, uint64_t ticks, uint8_t *out, size_t room, si
  *               moments that a tag names have the same ticks, which are told once, beside the list.
  *   more        Whether the window has named moments beyond those listed. They are listed by a call whose
  *               window starts one tick after the last one listed.
+ *   room        Any will do. All moments of a window have room in to_sec - from_sec + 1 elements, and those of
+ *               a CUC tag of c coarse octets in (to_sec - from_sec) / 256^c + 1.
  *
  * A good tag that names nothing in the window is not refused: the answer is 0, the ticks are the tag's, the
  * count is 0 and more is false. So it is with a tag's own date outside the table of leap seconds, as 1971, and
@@ -397,7 +432,7 @@ uint8_t hz_write_wall(int64_t sec, uint64_t ticks, uint8_t *out, size_t room, si
  *     uint64_t ticks;
  *     size_t count;
  *     bool more;
- *     uint8_t refusal = hz_list_ascii((const uint8_t *)"::60", 4, 441763210, 0, 2145916837, 0,
+ *     uint8_t refusal = hz_list_ascii((const uint8_t *)"::60", 4, HZ_COVER_START, 0, HZ_COVER_END, 0,
  *                                     leaps, sizeof leaps / sizeof *leaps, &ticks, &count, &more);
  *
  * Now refusal is 0, ticks 0, count 16, leaps[0] 457488010, and more is true. For the others the call is made
@@ -436,9 +471,9 @@ uint8_t hz_list_cuc(const uint8_t *tag, size_t len, bool front, uint8_t p, int64
                     int64_t *list, size_t room, uint64_t *ticks, size_t *count, bool *more);
 
 /*
- * The moments of a window that an ASCII tag names. The window is inside the cover: it starts at 441763210 s or
- * later, which is 1972-01-01T00:00:00 UTC, and ends at 2145916837 s and 0 ticks or earlier, which is the first
- * moment after 2025-12-31.
+ * The moments of a window that an ASCII tag names. The window is inside the cover: it starts at HZ_COVER_START
+ * or later, which is 1972-01-01T00:00:00 UTC, and ends at HZ_COVER_END and 0 ticks or earlier, which is the
+ * first moment after 2025-12-31.
  *
  * tag, len: the tag and nothing else. NULL only when len is 0.
  * from_sec, from_ticks and to_sec, to_ticks: two records, the window's start and its end.

@@ -18,6 +18,19 @@ static void expect(const char *what, int holds)
     }
 }
 
+static void meanings(void)
+{
+    int number, other;
+
+    expect("0 is done", strcmp(HZ_MEANING(0), "done") == 0);
+    expect("6 has a text", strcmp(HZ_MEANING(HZ_NO_SUCH_SECOND), "no leap second on this day") == 0);
+    for (number = 0; number <= HZ_WINDOW + 1; number++) {
+        for (other = 0; other < number; other++) {
+            expect("each number has a text of its own", strcmp(HZ_MEANING(number), HZ_MEANING(other)) != 0);
+        }
+    }
+}
+
 static void differences(void)
 {
     int64_t sec = 17;
@@ -93,12 +106,16 @@ static void readings(void)
     uint64_t second = 19;
 
     expect("the second before the cover is refused",
-           hz_utc_of_second(441763209, &day, &second, &offset) == HZ_UNCOVERED);
+           hz_utc_of_second(HZ_COVER_START - 1, &day, &second, &offset) == HZ_UNCOVERED);
     expect("the second after the cover is refused",
-           hz_utc_of_second(2145916837, &day, &second, &offset) == HZ_UNCOVERED);
+           hz_utc_of_second(HZ_COVER_END, &day, &second, &offset) == HZ_UNCOVERED);
     expect("a refusal writes nothing", day == 17 && second == 19 && offset == 18);
-    expect("1972-01-01T00:00:00", hz_utc_of_second(441763210, &day, &second, &offset) == 0 && day == 5113 &&
-                                      second == 0 && offset == 10);
+    expect("1972-01-01T00:00:00",
+           hz_utc_of_second(HZ_COVER_START, &day, &second, &offset) == 0 && day == 5113 && second == 0 &&
+               offset == 10);
+    expect("2025-12-31T23:59:59",
+           hz_utc_of_second(HZ_COVER_END - 1, &day, &second, &offset) == 0 && day == 24836 && second == 86399 &&
+               offset == 37);
     expect("2016-12-31T23:59:60", hz_utc_of_second(1861920036, &day, &second, &offset) == 0 && day == 21549 &&
                                       second == 86400 && offset == 36);
     expect("2017-01-01T00:00:00", hz_utc_of_second(1861920037, &day, &second, &offset) == 0 && day == 21550 &&
@@ -287,7 +304,7 @@ static void walls(void)
 /* One octet wraps every 256 seconds. */
 static void lists_of_counters(void)
 {
-    static const uint8_t tag[] = {0x10, 0x00, 0x00};
+    static const uint8_t tag[] = {0x10, 0x00, 0x00}, half[] = {0x11, 0x00, 0x80};
     int64_t list[5] = {-1, -1, -1, -1, -1};
     uint64_t ticks = 17;
     size_t count = 18;
@@ -315,6 +332,9 @@ static void lists_of_counters(void)
     expect("no room at NULL",
            hz_list_cuc(tag, 2, true, 0, 0, 0, 1, 1024, 0, NULL, 0, &ticks, &count, &more) == 0 && count == 0 &&
                more);
+    expect("the room that holds all, 256 / 256 + 1, is used up",
+           hz_list_cuc(half, 3, true, 0, 0, 0, 0, 256, HALF + 1, list, 2, &ticks, &count, &more) == 0 &&
+               count == 2 && !more && list[0] == 0 && list[1] == 256);
 }
 
 /* What is named in all covered time: how many, the first and the last. Where there is a refusal, or nothing
@@ -378,6 +398,9 @@ static void lists_of_texts(void)
     expect("the last second",
            hz_list_ascii(half, 4, end - 2, HALF + 1, end, 0, list, 1, &ticks, &count, &more) == 0 &&
                count == 1 && !more && list[0] == end - 1);
+    expect("the room that holds all, 1 + 1, is used up",
+           hz_list_ascii(half, 4, first, 0, first + 1, HALF + 1, list, 2, &ticks, &count, &more) == 0 &&
+               count == 2 && !more && list[0] == first && list[1] == first + 1);
     expect("nothing in an empty window",
            hz_list_ascii(half, 4, end, 0, end, 0, NULL, 0, &ticks, &count, &more) == 0 && ticks == HALF &&
                count == 0 && !more);
@@ -385,6 +408,7 @@ static void lists_of_texts(void)
 
 int main(void)
 {
+    meanings();
     differences();
     shifts();
     days();

@@ -3,6 +3,12 @@
 use crate::raw;
 use crate::refusal::{answer, Refusal};
 
+/// The table of leap seconds covers the TAI seconds from this one on: 1972-01-01T00:00:00 UTC.
+pub const COVER_START: i64 = 441_763_210;
+
+/// The table of leap seconds covers the TAI seconds before this one: the first after 2025-12-31 UTC.
+pub const COVER_END: i64 = 2_145_916_837;
+
 /// A UTC reading: a day, a second of it, and what TAI minus UTC is then.
 ///
 /// Its TAI second is always `day * 86_400 + second + offset`. Readings are in the order of time.
@@ -25,14 +31,20 @@ pub struct Utc {
 /// second is refused with [`Refusal::Uncovered`], however far outside it is.
 ///
 /// ```
-/// use honigzange::{utc_of_second, Refusal, Utc};
+/// use honigzange::{utc_of_second, Refusal, Utc, COVER_END, COVER_START};
 ///
 /// // 2016-12-31T23:59:60, and 2017-01-01T00:00:00 after it.
 /// let leap = Utc { day: 21_549, second: 86_400, offset: 36 };
 /// let midnight = Utc { day: 21_550, second: 0, offset: 37 };
 /// assert_eq!(utc_of_second(1_861_920_036), Ok(leap));
 /// assert_eq!(utc_of_second(1_861_920_037), Ok(midnight));
-/// assert_eq!(utc_of_second(2_145_916_837), Err(Refusal::Uncovered));
+///
+/// let (first, last) = (utc_of_second(COVER_START)?, utc_of_second(COVER_END - 1)?);
+/// assert_eq!((first.day, first.second), (5_113, 0));
+/// assert_eq!((last.day, last.second), (24_836, 86_399));
+/// assert_eq!(utc_of_second(COVER_START - 1), Err(Refusal::Uncovered));
+/// assert_eq!(utc_of_second(COVER_END), Err(Refusal::Uncovered));
+/// # Ok::<(), Refusal>(())
 /// ```
 pub fn utc_of_second(sec: i64) -> Result<Utc, Refusal> {
     let mut utc = Utc {

@@ -7,6 +7,9 @@
 //! UTC outside them, as a clock of 2026 does, is refused with [`Refusal::Uncovered`]: nothing is
 //! extrapolated.
 //!
+//! The package has no dependency and needs no `std`. Unsafe code stands in [`raw`] alone, whose calls are
+//! safe: the declarations of the C interface, and a call of each.
+//!
 //! ```
 //! use honigzange::{day_of_date, difference, second_of_utc, shift, Date, Record, Span};
 //!
@@ -61,14 +64,23 @@
 #![deny(unsafe_code)]
 #![deny(missing_docs)]
 
+#[forbid(unsafe_code)]
 mod ascii;
+#[forbid(unsafe_code)]
 mod binary;
+#[forbid(unsafe_code)]
 mod calendar;
+#[forbid(unsafe_code)]
 mod leap;
+#[allow(unsafe_code)]
 pub mod raw;
+#[forbid(unsafe_code)]
 mod refusal;
+#[forbid(unsafe_code)]
 mod scale;
+#[forbid(unsafe_code)]
 mod setting;
+#[forbid(unsafe_code)]
 mod tags;
 
 pub use ascii::{read_ascii, write_ascii, write_wall, AsciiSetting, ASCII_ROOM, WALL_ROOM};
@@ -76,7 +88,7 @@ pub use binary::{read_binary, write_binary, BinarySetting, Preamble, BINARY_ROOM
 pub use calendar::{
     date_of_day, day_of_date, day_of_ordinal, ordinal_of_day, Date, Ordinal, FIRST_DAY, LAST_DAY,
 };
-pub use leap::{second_of_utc, utc_of_second, Utc};
+pub use leap::{second_of_utc, utc_of_second, Utc, COVER_END, COVER_START};
 pub use refusal::Refusal;
 pub use scale::{difference, shift, Record, Span};
 pub use setting::{write, Setting};

@@ -3,8 +3,6 @@
 //!
 //! The calls at the crate's root say the same with [`Result`].
 
-#![allow(unsafe_code)]
-
 mod c {
     extern "C" {
         pub fn hz_difference(

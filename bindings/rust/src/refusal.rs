@@ -66,7 +66,14 @@ impl Refusal {
         })
     }
 
-    const fn meaning(self) -> &'static str {
+    /// A short text: what the number means.
+    ///
+    /// ```
+    /// use honigzange::Refusal;
+    ///
+    /// assert_eq!(Refusal::NoSuchSecond.meaning(), "no leap second on this day");
+    /// ```
+    pub const fn meaning(self) -> &'static str {
         match self {
             Refusal::Short => "input too short",
             Refusal::Identification => "no time code of this identification",

@@ -6,6 +6,9 @@ use crate::refusal::{answer, Refusal};
 use crate::scale::Record;
 
 /// What a listing says beside the seconds, which are in the caller's list.
+///
+/// A list of any length will do. All moments of a window have room in `to.sec - from.sec + 1` elements, and
+/// those of a CUC tag of c coarse octets in `(to.sec - from.sec) / 256^c + 1`.
 #[derive(Clone, Copy, PartialEq, Eq, Debug, Hash)]
 pub struct Listing {
     /// The ticks of every moment that the tag names, listed or not.
@@ -120,13 +123,14 @@ pub fn list_cuc(
 /// has no such date, or when the hour, the minute or the second is out of range (second 60 is in range with
 /// 59 for a minute, if there is one, and 23 for an hour, if there is one); [`Refusal::Range`] when `from` or
 /// `to` is invalid; [`Refusal::Window`] when `to` is before `from`; [`Refusal::Uncovered`] when the window,
-/// be it empty or not, starts before second 441,763,210 or ends after second 2,145,916,837 and 0 ticks.
+/// be it empty or not, starts before second [`COVER_START`](crate::COVER_START) or ends after second
+/// [`COVER_END`](crate::COVER_END) and 0 ticks.
 ///
 /// ```
-/// use honigzange::{list_ascii, Listing, Record, Refusal};
+/// use honigzange::{list_ascii, Listing, Record, Refusal, COVER_END, COVER_START};
 ///
 /// // All that is covered: 1972-01-01 to 2025-12-31.
-/// let (from, to) = (Record { sec: 441_763_210, ticks: 0 }, Record { sec: 2_145_916_837, ticks: 0 });
+/// let (from, to) = (Record { sec: COVER_START, ticks: 0 }, Record { sec: COVER_END, ticks: 0 });
 /// let mut list = [0; 30];
 ///
 /// // The leap seconds, and those at the end of a leap year.
