@@ -1,5 +1,5 @@
 -- Laws of dates and of days of a year: what their tests say, and that each is inverse to the index.
-use Prim.Native.Nat.{ℕ, _+_, _-_, _≤_, _<_}
+use Prim.Native.Nat.{ℕ, _+_, _-_, _*_, _≤_, _<_}
 use mathlib.Core.Path.{_≡_, refl, sym, ap, _∙_}
 use mathlib.Core.Bool.{Bool, true, false, cond, _&&_}
 use native.Mathlib.Omega.{arith}
@@ -10,7 +10,7 @@ use Rattle.base.proofs.Bools.{and-left, and-right}
 use Rattle.calendar.specs.declared.Ordinal.{Ordinal}
 use Rattle.calendar.specs.Gregorian.{kind, yearLength, yearStart, yearsTo, row, upTo, monthsTo, monthLength, isDate, isOrdinal, dayIndex, dayOfYear, ordinalOn, ymd, dateIn}
 use Rattle.calendar.proofs.Years.{Holds, kind-lt, next-start, year-end, start-mono, years-hold, years-unique}
-use Rattle.calendar.proofs.Rows.{months-is, row-length, row-next, row-le, row-found, Found}
+use Rattle.calendar.proofs.Rows.{months-is, row-length, row-next, row-le, row-found, Found, Parted}
 
 -- ---- what the tests say
 pub record GoodOrdinal (y d : ℕ) : Type 0 where
@@ -134,10 +134,14 @@ date-at-day y i d h p l =
     let e : upTo (row (kind y)) i + d - upTo (row (kind y)) i ≡ d = omega arith in
     simp (months-is (row (kind y)) i d (rw (row-length (kind y) (kind-lt y)) h) p l, e)
 
--- as the loop over the months leaves it
-pub date-left : (o : Ordinal) (k i d : ℕ) → k ≡ kind (o .year) → i < 12 → 1 ≤ d → d ≤ getD (row k) i 0 → upTo (row k) i + d ≡ o .day → ymd (o .year) (i + 1) d ≡ dateIn o
-date-left o k i d e h p l q =
-    sym (date-at-day (o .year) i d h p (rw e at l)) ∙ ap (λ (x : ℕ). dateIn (record { year = o .year; day = x })) (rw e at q)
+-- as the code has it: what the m months of s days and the p months of n days leave of the day
+pub date-parted : (o : Ordinal) (k m s n p : ℕ) → k ≡ kind (o .year) → Parted k (o .day) m s n p → ymd (o .year) (m + 1 + p) (o .day - s - n * p) ≡ dateIn o
+date-parted o k m s n p e g =
+    let d = o .day - s - n * p in
+    let f : m + 1 + p ≡ m + p + 1 = omega arith in
+    let h : d ≤ getD (row k) (m + p) 0 = omega arith in
+    let q : upTo (row k) (m + p) + d ≡ o .day = omega arith in
+    rw f (sym (date-at-day (o .year) (m + p) d (g .inside) (omega arith) (rw e at h)) ∙ ap (λ (x : ℕ). dateIn (record { year = o .year; day = x })) (rw e at q))
 
 pub date-of-date : (y m d : ℕ) → GoodDate y m d → dateIn (record { year = y; day = dayOfYear y m d }) ≡ ymd y m d
 date-of-date y m d g =

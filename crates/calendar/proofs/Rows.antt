@@ -1,14 +1,15 @@
 -- Sums of the lengths of a list, and the place of a day among them, for any list; and the two rows of the months.
-use Prim.Native.Nat.{ℕ, zero, suc, _+_, _-_, _≤_, _<_, zero-le}
+use Prim.Native.Nat.{ℕ, zero, suc, _+_, _-_, _*_, _/_, _≤_, _<_, min, zero-le}
 use mathlib.Core.Path.{_≡_, refl, ap}
 use mathlib.Core.Bool.{Bool, true, false, cond, _&&_}
 use mathlib.Core.List.{List, [], _∷_}
-use native.Mathlib.Nat.{le-of-suc-le-suc, not-suc-le-zero}
+use native.Mathlib.Nat.{add-zero, le-of-suc-le-suc, not-suc-le-zero}
 use native.Mathlib.Numerals.{add-one}
 use native.Mathlib.Omega.{arith}
-use lib.Dec.{leb}
+use lib.Dec.{leb, ltb}
 use lib.ListN.{length, getD}
-use borrow.Author.Tests.{leb-true, leb-false, le-leb, lt-leb}
+use mir.Val.{boolByte}
+use borrow.Author.Tests.{leb-true, leb-false, le-leb, lt-leb, ltb-true, ltb-false}
 use Rattle.base.proofs.Bools.{and-left, and-right}
 use Rattle.base.proofs.Steps.{mono}
 use Rattle.calendar.specs.Gregorian.{row, upTo, monthsTo}
@@ -84,6 +85,17 @@ row-lengths : (k : ℕ) → k < 2 → every good-length (row k) ≡ true
 unfolding row
 row-lengths = of-two (λ k. every good-length (row k) ≡ true) refl refl
 
+-- a turn of the sum of the first m months over all twelve: month i is added p times
+abbrev pub Turn : ℕ → ℕ → ℕ → ℕ → Type 0
+Turn k m i p = (upTo (row k) (min (i + 1) m) ≡ upTo (row k) (min i m) + getD (row k) i 0 * p) × (upTo (row k) (min (i + 1) m) ≤ 365 + k)
+
+-- day d of a year is in month m + p: before it lie m months, of s days, and p more, of n days each
+pub record Parted (k d m s n p : ℕ) : Type 0 where
+  pub inside : m + p < 12
+  pub low : s + n * p < d
+  pub high : d ≤ s + n * p + getD (row k) (m + p) 0
+  pub days : upTo (row k) (m + p) ≡ s + n * p
+
 module _ (k : ℕ) (h : k < 2) where
   pub row-next : (i : ℕ) → i < 12 → upTo (row k) (i + 1) ≡ upTo (row k) i + getD (row k) i 0
   row-next i l = rw add-one (upTo-suc (row k) i (rw (row-length k h) l))
@@ -101,10 +113,48 @@ module _ (k : ℕ) (h : k < 2) where
       let e : good-length n ≡ true = every-at good-length (row k) (row-lengths k h) i (rw (row-length k h) l) in
       (leb-true 28 n (and-left (leb 28 n) (leb n 31) e), leb-true n 31 (and-right (leb 28 n) (leb n 31) e))
 
-  -- a day of the year that is past month i has a later month
-  pub more-months : (i d : ℕ) → i < 12 → d ≤ 365 + k → upTo (row k) (i + 1) < d → i + 1 < 12
-  more-months i d l q u = go (leb 12 (i + 1)) refl
-    where
-      go : (t : Bool) → leb 12 (i + 1) ≡ t → i + 1 < 12
-      go true e = absurd (omega (arith, row-total k h, upTo-mono (row k) 12 (i + 1) (leb-true 12 (i + 1) e)))
-      go false e = leb-false 12 (i + 1) e
+  pub row-turn : (m i : ℕ) → i < 12 → (t : Bool) → ltb i m ≡ t → Turn k m i (boolByte t)
+  row-turn m i l true e =
+      let u : i < m = ltb-true i m e in
+      let a : min (i + 1) m ≡ i + 1 = omega arith in
+      let b : min i m ≡ i = omega arith in
+      rw (a, b) (omega (arith, row-next i l, row-le (i + 1) (omega arith)))
+  row-turn m i l false e =
+      let u : m ≤ i = ltb-false i m e in
+      let a : min (i + 1) m ≡ m = omega arith in
+      let b : min i m ≡ m = omega arith in
+      rw (a, b) (omega (arith, row-le m (omega arith)))
+
+  -- n months have at most 31 n days
+  days-le : (i n : ℕ) → i + n ≤ 12 → upTo (row k) (i + n) ≤ upTo (row k) i + 31 * n
+  days-le i zero l = rw (add-zero i) (omega arith)
+  days-le i (suc n) l =
+      let e : i + suc n ≡ i + n + 1 = omega arith in
+      rw e (omega (arith, days-le i n (omega arith), row-next (i + n) (omega arith), length-in (i + n) (omega arith)))
+
+  -- so have those before month i, and those from it on
+  around : (i : ℕ) → i ≤ 12 → (upTo (row k) i ≤ 31 * i) × (365 + k ≤ upTo (row k) i + 31 * (12 - i))
+  around i l =
+      let e : 0 + i ≡ i = omega arith in
+      let f : i + (12 - i) ≡ 12 = omega arith in
+      (omega (arith, rw e at (days-le 0 i (omega arith))), omega (arith, row-total k h, rw f at (days-le i (12 - i) (omega arith))))
+
+  -- day d of a year is in the month with (d - 1) / 32 months before it, or in the next
+  module _ (d : ℕ) (p : 1 ≤ d) (q : d ≤ 365 + k) where
+    abbrev m : ℕ
+    m = (d - 1) / 32
+
+    pub month-begun : (m < 12) × (upTo (row k) m < d)
+    month-begun = (omega arith, omega (arith, around m (omega arith)))
+
+    pub parted : (s n : ℕ) → s ≡ upTo (row k) m → n ≡ getD (row k) m 0 → (t : Bool) → ltb n (d - s) ≡ t → Parted k d m s n (boolByte t)
+    parted s n a b false e =
+        let (i, u) = month-begun in
+        let l : d - s ≤ n = ltb-false n (d - s) e in
+        record { inside = omega arith; low = omega arith; high = rw (add-zero m) (omega arith); days = rw (add-zero m) (omega arith) }
+    parted s n a b true e =
+        let (i, u) = month-begun in
+        let f = row-next m i in
+        let l : n < d - s = ltb-true n (d - s) e in
+        let j : m + 1 < 12 = omega (arith, around (m + 1) (omega arith)) in
+        record { inside = j; low = omega arith; high = omega (arith, row-next (m + 1) j, around (m + 1 + 1) (omega arith)); days = omega arith }

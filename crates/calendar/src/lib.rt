@@ -68,7 +68,7 @@ pub enum OrdinalAnswer {
 }
 
 // The month lengths of ordinary years, and of leap years.
-const MONTHS: [[u64; 12]; 2] = [
+const MONTHS: [[u8; 12]; 2] = [
     [31, 28, 31, 30, 31, 30, 31, 31, 30, 31, 30, 31],
     [31, 29, 31, 30, 31, 30, 31, 31, 30, 31, 30, 31],
 ];
@@ -182,16 +182,7 @@ fn is_year(year: u64) -> bool
 fn kind_of(year: u64) -> usize
     ensures { λ r. ⌜ r ≡ kind year ⌝ }
 {
-    if year % 4 != 0 {
-        return 0;
-    }
-    if year % 100 != 0 {
-        return 1;
-    }
-    if year % 400 != 0 {
-        return 0;
-    }
-    1
+    ((year % 4 == 0) & ((year % 100 != 0) | (year % 400 == 0))) as usize
 }
 
 fn year_length(year: u64) -> u64
@@ -225,7 +216,7 @@ fn length_at(k: usize, i: usize) -> u64
     requires { ⌜ (k < 2) × (i < 12) ⌝ }
     ensures { λ r. ⌜ r ≡ getD (row k) i 0 ⌝ }
 {
-    MONTHS[k][i]
+    MONTHS[k][i] as u64
 }
 
 // The length of a month, or 0 for no month.
@@ -250,8 +241,9 @@ fn month_start(k: usize, m: usize) -> u64
     let rows = MONTHS;
     let mut sum = 0;
     let mut i = 0;
-    while i < m {
-        sum += rows[k][i];
+    // all twelve, as the end of a loop up to m is mispredicted
+    while i < 12 {
+        sum += rows[k][i] as u64 * (i < m) as u64;
         i += 1;
     }
     sum
@@ -280,28 +272,22 @@ fn ordinal_on(index: u64) -> Ordinal
     }
 }
 
-// The date of a day of a year: whole months are taken off until the rest fits its month.
+// The date of a day of a year: the month with (day - 1) / 32 months before it holds the day, or the next one does.
 fn date_in(o: Ordinal) -> Date
     requires { ⌜ isOrdinal (o .year) (o .day) ≡ true ⌝ }
     ensures { λ r. ⌜ r ≡ dateIn o ⌝ }
 {
     let k = kind_of(o.year);
-    let rows = MONTHS;
-    let mut left = o.day;
-    let mut m = 0;
-    'months: loop {
-        let length = rows[k][m];
-        if left <= length {
-            break 'months;
-        }
-        left -= length;
-        m += 1;
-    }
-    let month = m as u64 + 1;
+    let m = ((o.day - 1) / 32) as usize;
+    let left = o.day - month_start(k, m);
+    let length = length_at(k, m);
+    let past = (length < left) as u64;
+    let month = m as u64 + 1 + past;
+    let day = left - length * past;
     Date {
         year: o.year,
         month: month,
-        day: left,
+        day: day,
     }
 }
 

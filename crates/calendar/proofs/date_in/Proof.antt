@@ -1,83 +1,71 @@
 -- `calendar::date_in` meets its contract.
 use borrow.Author.Needs.{needs}
-use Prim.Native.Nat.{_+_, _-_, _≤_, _<_}
-use mathlib.Core.Path.{_≡_}
+use Prim.Native.Nat.{_+_, _-_, _/_, _≤_, _<_}
+use mathlib.Core.Path.{refl}
 use native.Mathlib.Omega.{arith}
-use Rattle.calendar.specs.Gregorian.{row, upTo}
+use lib.Dec.{ltb}
+use mir.Val.{boolByte}
 use Rattle.calendar.proofs.Years.{kind-lt}
-use Rattle.calendar.proofs.Rows.{row-next, more-months}
-use Rattle.calendar.proofs.Dates.{good-ordinal, date-left}
+use Rattle.calendar.proofs.Rows.{Parted, month-begun, parted}
+use Rattle.calendar.proofs.Dates.{good-ordinal, date-parted}
 use Rattle.calendar.proofs.date_in.Statement.{statement}
 use Rattle.calendar.proofs.date_in.Tie as tie
 
-abbrev Inv-months : tie.InvT-months
-Inv-months o k rows left₀ m₀ left m = (m < 12) × (1 ≤ left) × (upTo (row k) m + left ≡ o .day)
+in-year : (c : tie.After-kind-of) → (c .kind-of .result < 2) × (1 ≤ c .before .args .o .day) × (c .before .args .o .day ≤ 365 + c .kind-of .result)
+in-year c = omega (arith, good-ordinal _ _ (c .before .pre), kind-lt (c .before .args .o .year))
 
-abbrev μ-months : tie.MeasureT-months
-μ-months o k rows left₀ m₀ left m = 12 - m
+parts : (c : tie.After-length-at) → Parted (c .before .before .before .before .kind-of .result) (c .before .before .before .before .before .args .o .day) ((c .before .before .before .before .before .args .o .day - 1) / 32) (c .before .before .month-start .result) (c .length-at .result) (boolByte (ltb (c .length-at .result) (c .before .before .before .before .before .args .o .day - c .before .before .month-start .result)))
+parts c =
+    let (h, p, q) = in-year (c .before .before .before .before) in
+    parted _ h _ p q _ _ (c .before .before .month-start .ensures) (c .length-at .ensures) _ refl
 
-kind-of-requires : tie.Need-kind-of-requires Inv-months μ-months
+kind-of-requires : tie.Need-kind-of-requires
 kind-of-requires c κs = search needs
 
-months-holds : tie.Need-months-holds Inv-months μ-months
-months-holds c = omega (arith, good-ordinal _ _ (c .before .pre))
+sub-m : tie.Need-sub-m
+sub-m c = omega (arith, in-year (c .before))
 
-mul-length : tie.Need-mul-length Inv-months μ-months
-mul-length c = omega (arith, kind-lt (c .before .before .args .o .year))
+month-start-requires : tie.Need-month-start-requires
+month-start-requires c κs = omega (arith, in-year (c .before))
 
-mul-length-2 : tie.Need-mul-length-2 Inv-months μ-months
-mul-length-2 c = omega arith
+sub-left : tie.Need-sub-left
+sub-left c =
+    let (h, p, q) = in-year (c .before .before .before) in
+    omega (arith, month-begun _ h _ p q)
 
-index-1-length : tie.Need-index-1-length Inv-months μ-months
-index-1-length c = omega (arith, kind-lt (c .before .before .args .o .year))
+length-at-requires : tie.Need-length-at-requires
+length-at-requires c κs = omega (arith, in-year (c .before .before .before))
 
-index-2-length : tie.Need-index-2-length Inv-months μ-months
-index-2-length c = omega arith
+cast-past : tie.Need-cast-past
+cast-past c = search needs
 
-sub-left : tie.Need-sub-left Inv-months μ-months
-unfolding row
-sub-left c = omega arith
+add-month : tie.Need-add-month
+add-month c = search needs
 
-add-m : tie.Need-add-m Inv-months μ-months
-add-m c = omega arith
+add-month-2 : tie.Need-add-month-2
+add-month-2 c = omega (arith, parts c)
 
-months-less : tie.Need-months-less Inv-months μ-months
-months-less c = omega arith
+mul-day : tie.Need-mul-day
+mul-day c = omega (arith, parts c)
 
-months-again : tie.Need-months-again Inv-months μ-months
-unfolding row
-months-again c =
-    let o = c .before .before .before .before .args .o in
-    let k = c .before .before .before .kind-of .result in
-    let m = c .before .before .months .m in
-    let s : k < 2 = omega (arith, kind-lt (o .year)) in
-    let n = row-next k s m (omega arith) in
-    (more-months k s m (o .day) (omega arith) (omega (arith, good-ordinal _ _ (c .before .before .before .before .pre))) (omega arith), omega arith, omega arith)
+sub-day : tie.Need-sub-day
+sub-day c = omega (arith, parts c)
 
-add-month : tie.Need-add-month Inv-months μ-months
-add-month c = omega arith
-
-returns : tie.Need-returns Inv-months μ-months
-unfolding row
-returns c =
-    let w = c .before .before in
-    date-left (w .before .before .args .o) (w .before .kind-of .result) (w .months .m) (w .months .left) (w .before .kind-of .ensures) (omega arith) (omega arith) (omega arith) (w .months .inv .2)
+returns : tie.Need-returns
+returns c = date-parted _ _ _ _ _ _ (c .before .before .before .before .kind-of .ensures) (parts c)
 
 pub date-in-spec : {M : Type 1} → statement M
 date-in-spec =
     tie.close
     (tie.spec
-    Inv-months
-    μ-months
     kind-of-requires
-    months-holds
-    mul-length
-    mul-length-2
-    index-1-length
-    index-2-length
+    sub-m
+    month-start-requires
     sub-left
-    add-m
-    months-less
-    months-again
+    length-at-requires
+    cast-past
     add-month
+    add-month-2
+    mul-day
+    sub-day
     returns)
