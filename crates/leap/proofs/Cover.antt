@@ -1,25 +1,24 @@
 -- The built-in cover, of signed numbers: where a number's seat is, what the calls answer.
-use Prim.Native.Nat.{ℕ, _+_, _-_, _*_, _^_, _<_, _≤_}
+use Prim.Native.Nat.{ℕ, _+_, _-_, _^_, _<_, _≤_}
 use mathlib.Core.Path.{_≡_, refl, sym, ap, _∙_}
-use mathlib.Core.Bool.{Bool, true, false, cond, _&&_}
+use mathlib.Core.Bool.{Bool, true, false, cond}
 use mathlib.Core.List.{List, [], _∷_}
 use native.Mathlib.Omega.{arith}
 use lib.Dec.{leb, ltb}
-use lib.ListN.{drop}
 use lib.IntN.{ℤ, pos}
 use borrow.Author.Tests.{leb-true, ltb-true}
-use Rattle.base.specs.Parts.{plus, minus, within, at}
+use Rattle.base.specs.Parts.{within, at}
 use Rattle.base.specs.Seats.{seatOf}
 use Rattle.base.specs.declared.Seat.the-variants.{In, Out}
-use Rattle.base.specs.Outcome.{Outcome, done, refused, need, andThen, given}
+use Rattle.base.specs.Outcome.{Outcome, done, refused, andThen, given}
 use Rattle.base.proofs.Bools.{and-true, never-both}
-use Rattle.base.proofs.Ladders.{need-yes, need-done, then-done, done-is}
+use Rattle.base.proofs.Ladders.{need-done, then-done, done-is}
 use Rattle.base.proofs.Signed.{within-yes, seat-in, seat-out}
 use Rattle.leap.specs.declared.Row.{Row}
 use Rattle.leap.specs.declared.Reading.{Reading}
 use Rattle.leap.specs.Table.{offFrom, offset, start, dayLength, dayHolding, covers, coversSecond, secondAt, reading, readingAt}
-use Rattle.leap.specs.Builtin.{leaps, builtin}
-use Rattle.leap.specs.Utc.{dayRaise, secondRaise, raisedBy, loweredBy, readingOf, secondOf, secondOfUtc}
+use Rattle.leap.specs.Builtin.{builtin}
+use Rattle.leap.specs.Utc.{dayRaise, secondRaise, raisedBy, loweredBy, readingOf, secondOf}
 use Rattle.leap.proofs.Days.{holding-le}
 use Rattle.leap.proofs.Builtin.{builtin-good, covered-days, covered-seconds, second-in, first-second, past-second, passes}
 use Rattle.leap.proofs.Outcomes.{reading-done, reading-uncovered, second-uncovered}

@@ -1,6 +1,6 @@
 -- Laws of any good table: the next day begins where a day's seconds end, and each second stands in one day.
 use Prim.Native.Nat.{ℕ, _+_, _-_, _*_, _/_, _≤_, _<_, min}
-use mathlib.Core.Path.{_≡_, refl, ap, sym, _∙_}
+use mathlib.Core.Path.{_≡_, refl, ap, _∙_}
 use mathlib.Core.Bool.{Bool, true, false, cond, _&&_, _||_, false≢true}
 use mathlib.Core.List.{List, [], _∷_}
 use native.Mathlib.Omega.{arith}
@@ -99,11 +99,6 @@ holds r (r' ∷ rs) s g h =
     let n : Next r r' rs = next r r' rs g in
     holds-by r r' rs s n h (holds r' rs s (n .rest)) _ refl
 
--- the last row's day has come
-pub last-row : (r : Row) (rs : List Row) → goodFrom r rs ≡ true → r .day ≤ lastRow r rs .day
-last-row r [] g = omega arith
-last-row r (r' ∷ rs) g = omega (arith, next r r' rs g .rises, last-row r' rs (next r r' rs g .rest))
-
 -- ---- the same of a table
 module _ (t : Table) (g : good t ≡ true) where
   pub rows-good : goodFrom (t .first) (t .later) ≡ true
@@ -111,9 +106,6 @@ module _ (t : Table) (g : good t ≡ true) where
 
   pub last-day : lastRow (t .first) (t .later) .day ≤ t .last
   last-day = leb-true _ _ (and-true (goodFrom (t .first) (t .later)) (leb (lastRow (t .first) (t .later) .day) (t .last)) g .1)
-
-  pub first-day : t .first .day ≤ t .last
-  first-day = omega (arith, last-day, last-row (t .first) (t .later) rows-good)
 
   step : (d : ℕ) → Close (offset t d) (offset t (d + 1))
   unfolding offset

@@ -1,13 +1,13 @@
 -- Computed examples: around the last inserted second, the cover's ends, and a table that removes a second and goes below 0.
-use Prim.Native.Nat.{ℕ, _+_}
+use Prim.Native.Nat.{ℕ}
 use mathlib.Core.Path.{_≡_, refl}
-use mathlib.Core.Bool.{Bool, true}
-use mathlib.Core.List.{List, [], _∷_, map}
+use mathlib.Core.Bool.{true}
+use mathlib.Core.List.{[], _∷_, map}
 use lib.IntN.{ℤ, pos, negsuc}
 use Rattle.base.specs.Outcome.{Outcome, done, refused}
 use Rattle.leap.specs.declared.Utc.{Utc}
 use Rattle.leap.specs.Table.{Table, good, offset, start, dayLength, dayHolding, covers, coversSecond, secondAt, readingAt, dayAt}
-use Rattle.leap.specs.Builtin.{rowOf, builtin}
+use Rattle.leap.specs.Builtin.{builtin}
 use Rattle.leap.specs.Utc.{raisedBy, readingOf, secondOf, utcOfSecond, secondOfUtc}
 
 abbrev reads : ℤ → ℕ → ℤ → Outcome Utc

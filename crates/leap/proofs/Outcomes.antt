@@ -1,8 +1,7 @@
 -- The rungs of a second's, a reading's and a day's ladder, one law for each.
 use Prim.Native.Nat.{ℕ, _+_, _-_, _*_, _≤_, _<_}
-use mathlib.Core.Path.{_≡_, ap, _∙_}
+use mathlib.Core.Path.{_≡_, _∙_}
 use mathlib.Core.Bool.{true, false}
-use lib.Dec.{leb, ltb}
 use borrow.Author.Tests.{le-leb, lt-leb, lt-ltb, le-ltb}
 use Rattle.base.specs.Outcome.{done, refused}
 use Rattle.base.proofs.Ladders.{need-yes, need-no}

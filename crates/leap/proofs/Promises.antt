@@ -7,8 +7,7 @@ use native.Mathlib.Omega.{arith}
 use lib.Dec.{leb, ltb}
 use lib.IntN.{ℤ, pos, _+ℤ_, _*ℤ_}
 use borrow.Author.Tests.{leb-true, ltb-true, ltb-false, le-leb, lt-ltb}
-use Rattle.base.specs.Parts.{plus, minus, at}
-use Rattle.base.specs.Outcome.{Outcome, done, refused, need, andThen, given}
+use Rattle.base.specs.Outcome.{Outcome, done, andThen, given}
 use Rattle.base.proofs.Bools.{and-true, and-yes}
 use Rattle.base.proofs.Ladders.{need-yes, need-done, then-done, given-done, done-is}
 use Rattle.base.proofs.Signed.{same, sum, line}
@@ -17,7 +16,7 @@ use Rattle.leap.specs.declared.Reading.{Reading}
 use Rattle.leap.specs.declared.Utc.{Utc}
 use Rattle.leap.specs.Table.{Table, good, offset, start, dayLength, dayHolding, covers, coversSecond, secondAt, reading, readingAt}
 use Rattle.leap.specs.Utc.{dayRaise, offsetRaise, secondRaise, raisedBy, loweredBy, readingOf, secondOf, utc, utcOfSecond, secondOfUtc}
-use Rattle.leap.proofs.Days.{start-next, length-range, start-mono, start-up, held, holding-is, holding-le, first-day}
+use Rattle.leap.proofs.Days.{start-next, length-range, start-mono, start-up, held, holding-is, holding-le}
 use Rattle.leap.proofs.Outcomes.{second-done, reading-done}
 use Rattle.leap.proofs.Raised.{raise-at, raise-is, raise-lowered, lower-at, lower-is}
 

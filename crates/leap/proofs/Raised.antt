@@ -1,15 +1,14 @@
 -- Signed numbers raised and lowered, and what the built-in cover's ends say of them.
-use Prim.Native.Nat.{ℕ, _+_, _*_, _<_, _≤_}
-use mathlib.Core.Path.{_≡_, refl, sym, ap, _∙_}
+use Prim.Native.Nat.{ℕ, _+_}
+use mathlib.Core.Path.{_≡_, refl, ap, _∙_}
 use mathlib.Core.Bool.{Bool, true, false}
 use native.Mathlib.Omega.{arith}
-use lib.Dec.{leb}
 use lib.IntN.{ℤ, pos, negℤ, natAbs, subℕ, _+ℤ_}
 use lib.Signed.{leZ}
 use Rattle.base.specs.Parts.{plus, minus, at}
 use Rattle.base.specs.Outcome.{Outcome, done, refused, andThen}
 use Rattle.base.proofs.Ladders.{need-yes, need-done, done-is}
-use Rattle.base.proofs.Signed.{same, less, sum, apart, abs-is, neg-plus, neg-minus, le-so, le-not, le-yes, le-no}
+use Rattle.base.proofs.Signed.{same, less, sum, apart, abs-is, neg-plus, neg-minus, le-so, le-yes}
 use Rattle.leap.specs.Utc.{raisedBy, loweredBy}
 
 module _ (B : ℕ) where

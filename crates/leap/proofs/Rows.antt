@@ -1,7 +1,7 @@
 -- Row i of a good table, its end, and what is in force between them.
 use Prim.Native.Nat.{ℕ, zero, suc, _+_, _-_, _*_, _/_, _≤_, _<_, min}
 use mathlib.Core.Path.{_≡_, refl, ap, sym, _∙_}
-use mathlib.Core.Bool.{Bool, true, false, cond}
+use mathlib.Core.Bool.{Bool, true, false}
 use mathlib.Core.List.{List, [], _∷_, _++_}
 use native.Mathlib.Omega.{arith}
 use lib.Dec.{ltb}
@@ -12,7 +12,7 @@ use Rattle.leap.specs.declared.Row.{Row}
 use Rattle.leap.specs.Table.{Table, goodFrom, lastRow, good, offFrom, offset, start, dayLength, dayHolding}
 use Rattle.leap.specs.Builtin.{noRow}
 use Rattle.leap.specs.Inner.{rowAt, endRow, endAt, begins}
-use Rattle.leap.proofs.Days.{Next, next, off-before, off-after, off-first, rows-good, last-day, first-start, start-mono, holding-is, length-is}
+use Rattle.leap.proofs.Days.{next, off-before, off-after, off-first, rows-good, last-day, start-mono, holding-is, length-is}
 
 -- what ends row i, where z ends the last
 abbrev ends : List Row → Row → ℕ → Row
@@ -23,6 +23,20 @@ from-first : (r : Row) (rs : List Row) (i : ℕ) → goodFrom r rs ≡ true → 
 from-first r rs zero g h = omega arith
 from-first r [] (suc i) g h = absurd (omega arith)
 from-first r (r' ∷ rs) (suc i) g h = omega (arith, next r r' rs g .rises, from-first r' rs i (next r r' rs g .rest) (omega arith))
+
+-- and so do their begins
+begin-first : (r : Row) (rs : List Row) (i : ℕ) → goodFrom r rs ≡ true → i ≤ length rs → begins r ≤ begins (getD (r ∷ rs) i noRow)
+begin-first r rs zero g h = omega arith
+begin-first r [] (suc i) g h = absurd (omega arith)
+begin-first r (r' ∷ rs) (suc i) g h =
+    let n = next r r' rs g in
+    omega (arith, n .rises, n .down, begin-first r' rs i (n .rest) (omega arith))
+
+begin-later : (r : Row) (rs : List Row) (i j : ℕ) → goodFrom r rs ≡ true → i ≤ j → j ≤ length rs → begins (getD (r ∷ rs) i noRow) ≤ begins (getD (r ∷ rs) j noRow)
+begin-later r rs zero j g l h = begin-first r rs j g h
+begin-later r rs (suc i) zero g l h = absurd (omega arith)
+begin-later r [] (suc i) (suc j) g l h = absurd (omega arith)
+begin-later r (r' ∷ rs) (suc i) (suc j) g l h = begin-later r' rs i j (next r r' rs g .rest) (omega arith) (omega arith)
 
 -- a row ends after its day, and by at most one of offset
 pub record Ends (r z : Row) : Type 0 where
@@ -60,10 +74,10 @@ at-end r (r' ∷ rs) z (suc i) d g l e h q =
 pub end-next : (t : Table) (i : ℕ) → i < length (t .later) → endAt t i ≡ rowAt t (i + 1)
 end-next t i h = List·getD-append (t .later) (endRow t ∷ []) noRow i h ∙ sym (ap (rowAt t) (add-one i))
 
-pub end-back : (t : Table) (i : ℕ) (r : Row) → 0 < i → i ≤ length (t .later) → r ≡ rowAt t i → endAt t (i - 1) ≡ r
-end-back t i r p h e = let q : i - 1 + 1 ≡ i = omega arith in end-next t (i - 1) (omega arith) ∙ ap (rowAt t) q ∙ sym e
-
 -- ---- the same of a table
+pub begins-rise : (t : Table) → good t ≡ true → (i j : ℕ) → i ≤ j → j ≤ length (t .later) → begins (rowAt t i) ≤ begins (rowAt t j)
+begins-rise t g i j l h = begin-later (t .first) (t .later) i j (rows-good t g) l h
+
 module _ (t : Table) (g : good t ≡ true) (i : ℕ) (h : i ≤ length (t .later)) where
   pub row-ends : Ends (rowAt t i) (endAt t i)
   row-ends = ends-after (t .first) (t .later) (endRow t) i (rows-good t g) (omega (arith, last-day t g)) refl h

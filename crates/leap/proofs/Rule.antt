@@ -1,9 +1,10 @@
 -- The built-in table's rule, computed once over the whole table and carried to each row by one law; and what it says of the days.
-use Prim.Native.Nat.{ℕ, zero, suc, _+_, _-_, _<_}
+use Prim.Native.Nat.{ℕ, zero, suc, _+_, _-_, _<_, _≤_}
 use mathlib.Core.Path.{_≡_, refl, sym, ap, _∙_}
-use mathlib.Core.Bool.{Bool, true, false, _&&_}
+use mathlib.Core.Bool.{Bool, true, false}
 use mathlib.Core.List.{List, [], _∷_, map}
-use native.Mathlib.Nat.{le-of-suc-le-suc, not-suc-le-zero}
+use mathlib.Core.Logic.{_⊎_, inl, inr, ⊎-elim}
+use native.Mathlib.Nat.{le-of-suc-le-suc, not-suc-le-zero, eq-or-lt-of-le}
 use native.Mathlib.Numerals.{add-one}
 use native.Mathlib.Omega.{arith}
 use lib.Dec.{eqb}
@@ -12,20 +13,18 @@ use lib.IntN.{ℤ, pos}
 use borrow.Author.Tests.{eqb-true}
 use Rattle.base.specs.Parts.{within}
 use Rattle.base.specs.Seats.{seatOf}
-use Rattle.base.specs.declared.Seat.{Seat}
-use Rattle.base.specs.declared.Seat.the-variants.{In, Out}
-use Rattle.base.specs.Outcome.{Outcome, done, refused, given}
+use Rattle.base.specs.Outcome.{done, refused, given}
 use Rattle.base.proofs.Bools.{and-true, cond-yes, cond-no}
 use Rattle.calendar.specs.Gregorian.{kind, yearStart, yearsTo, row, monthLength, isDate, dayIndex, ordinalOn, dateIn, indexOfDate, ordinalAt, dateAt}
 use Rattle.leap.specs.declared.Row.{Row}
 use Rattle.leap.specs.declared.Utc.{Utc}
-use Rattle.leap.specs.Table.{dayLength}
+use Rattle.leap.specs.Table.{offset, dayLength}
 use Rattle.leap.specs.Builtin.{leaps, noRow, builtin}
 use Rattle.leap.specs.Utc.{utc, utcOfSecond}
 use Rattle.leap.specs.Rule.{dated, rowOn, onHalfYear, follows, neighbours}
-use Rattle.leap.specs.Inner.{rowAt, endAt}
+use Rattle.leap.specs.Inner.{rowAt, endAt, OnDay}
 use Rattle.leap.proofs.Builtin.{builtin-good, later-rows}
-use Rattle.leap.proofs.Rows.{Ends, end-next, row-ends, length-end}
+use Rattle.leap.proofs.Rows.{Ends, end-next, row-ends, offset-in, length-in, length-end}
 use Rattle.leap.proofs.Cover.{reading-in, reading-out}
 
 -- the rows are those of the dates
@@ -54,11 +53,66 @@ adds-one i h =
     let r' = rowAt builtin (suc i) in
     eqb-true _ _ (and-true (eqb (r' .offset) (r .offset + 1)) (onHalfYear (dateAt (r' .day))) (rule-at i h) .0)
 
+-- so that row i's is i + 74
+first-offset : rowAt builtin 0 .offset ≡ 74
+unfolding builtin
+first-offset = refl
+
+pub offset-at : (i : ℕ) → i < 28 → i + 74 ≡ rowAt builtin i .offset
+offset-at zero h = sym first-offset
+offset-at (suc i) h = omega (arith, offset-at i (omega arith), adds-one i h)
+
+-- what ends a row, the last aside, is the next row
+ended : (i : ℕ) → suc i < 28 → endAt builtin i ≡ rowAt builtin (suc i)
+ended i h = end-next builtin i (omega (arith, later-rows)) ∙ ap (rowAt builtin) (add-one i)
+
+-- what ends the last has its offset
+last-offset : endAt builtin 27 .offset ≡ 101
+unfolding builtin
+last-offset = refl
+
+-- so that no offset falls where a row ends
+end-offset : (i : ℕ) → i < 28 → rowAt builtin i .offset ≤ endAt builtin i .offset
+end-offset i h =
+    ⊎-elim
+    (λ (q : suc i ≡ 28). let e : i ≡ 27 = omega arith in omega (arith, offset-at i h, rw (← e) at last-offset))
+    (λ (q : suc i < 28). omega (arith, adds-one i q, ap (λ (r : Row). r .offset) (ended i q)))
+    (eq-or-lt-of-le h)
+
+-- a day on which row i is in force: its offset, its seconds, and that these are 86,400 or more
+module _ (d i : ℕ) (w : OnDay builtin d i) where
+  inside : i ≤ length (builtin .later)
+  inside = omega (arith, later-rows, w .row)
+
+  pub offset-on : offset builtin d ≡ rowAt builtin i .offset
+  offset-on = offset-in builtin builtin-good i inside d (w .low) (w .high)
+
+  pub length-on : d + 1 < endAt builtin i .day → dayLength builtin d ≡ 86400
+  length-on h = length-in builtin builtin-good i inside d (w .low) h
+
+  pub last-length : d + 1 ≡ endAt builtin i .day → dayLength builtin d ≡ 86400 + endAt builtin i .offset - rowAt builtin i .offset
+  last-length e = length-end builtin builtin-good i inside d (w .low) e
+
+  -- one of the two
+  which : (dayLength builtin d ≡ 86400) ⊎ (dayLength builtin d ≡ 86400 + endAt builtin i .offset - rowAt builtin i .offset)
+  which =
+      ⊎-elim
+      (λ (q : suc d ≡ endAt builtin i .day). inr (last-length (omega arith)))
+      (λ (q : suc d < endAt builtin i .day). inl (length-on (omega arith)))
+      (eq-or-lt-of-le (w .high))
+
+  pub least-length : 86400 ≤ dayLength builtin d
+  least-length = ⊎-elim (λ l. omega (arith, l)) (λ l. omega (arith, l, end-offset i (w .row))) which
+
+  -- the last row's days are ordinary, the last of them too
+  pub last-row : i ≡ 27 → dayLength builtin d ≡ 86400
+  last-row e = ⊎-elim (λ l. l) (λ l. omega (arith, l, offset-at i (w .row), rw (← e) at last-offset)) which
+
 -- "The day before each later row has 86,401 seconds"
 pub long-day : (i : ℕ) → suc i < 28 → dayLength builtin (rowAt builtin (suc i) .day - 1) ≡ 86401
 long-day i h =
     let l : i < length (builtin .later) = omega (arith, later-rows) in
-    let e : endAt builtin i ≡ rowAt builtin (suc i) = end-next builtin i l ∙ ap (rowAt builtin) (add-one i) in
+    let e : endAt builtin i ≡ rowAt builtin (suc i) = ended i h in
     let w : Ends (rowAt builtin i) (rowAt builtin (suc i)) = rw e at (row-ends builtin builtin-good i (omega arith)) in
     let d = rowAt builtin (suc i) .day - 1 in
     let f = rw e at (length-end builtin builtin-good i (omega arith) d (omega (arith, w .rises)) (rw e (omega (arith, w .rises)))) in

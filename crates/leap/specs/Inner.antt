@@ -1,10 +1,9 @@
 -- What the private functions ask and answer. No promise cites these.
 use Prim.Native.Nat.{ℕ, _+_, _*_, _<_, _≤_}
-use mathlib.Core.Path.{_≡_}
-use mathlib.Core.List.{List, [], _∷_, _++_}
+use mathlib.Core.List.{[], _∷_, _++_}
 use lib.ListN.{getD}
-use Rattle.leap.specs.Table.{Table, lastRow, offset, start}
-use Rattle.leap.specs.Builtin.{noRow, builtin}
+use Rattle.leap.specs.Table.{Table, lastRow}
+use Rattle.leap.specs.Builtin.{noRow}
 use Rattle.leap.specs.declared.Row.{Row}
 
 -- row i of a table, and what ends it: the next row, or past the cover the same offset again

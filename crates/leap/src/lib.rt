@@ -4,8 +4,8 @@
 use base::Refusal;
 use base::Seat;
 ghost use mathlib.Core.Path.{_≡_};
-ghost use Prim.Native.Nat.{_+_, _-_, _/_, _≤_, _<_, min};
-ghost use Rattle.leap.specs.Table.{start, dayLength, dayHolding, reading, secondAt, readingAt, dayOn, dayAt};
+ghost use Prim.Native.Nat.{_-_, _≤_, _<_};
+ghost use Rattle.leap.specs.Table.{start, dayHolding, reading, secondAt, readingAt, dayOn, dayAt};
 ghost use Rattle.leap.specs.Utc.{readingOf, secondOf, utcOfSecond, secondOfUtc};
 ghost use Rattle.leap.specs.Answers.{saysRaised, saysReading, saysSecond, saysUtc, saysDay};
 ghost use Rattle.leap.specs.Builtin.{builtin};
@@ -159,11 +159,14 @@ pub fn second_at(day: u64, second: u64) -> RaisedAnswer
         return RaisedAnswer::Refused(Refusal::Uncovered);
     }
     let i = row_on_day(day);
-    if length_of(day, i) <= second {
-        return RaisedAnswer::Refused(Refusal::NoSuchSecond);
+    if second == 86400 {
+        let length = day_in_row(day, i).length;
+        if length == 86400 {
+            return RaisedAnswer::Refused(Refusal::NoSuchSecond);
+        }
     }
-    let row = row_at(i);
-    RaisedAnswer::Done(day * 86400 + second + row.offset)
+    let s = day * 86400 + second + offset_at(i);
+    RaisedAnswer::Done(s)
 }
 
 // The reading of a raised TAI second.
@@ -192,15 +195,84 @@ pub fn day_at(day: u64) -> DayAnswer
     DayAnswer::Done(day_in_row(day, row_on_day(day)))
 }
 
-// Row i.
-fn row_at(i: usize) -> Row
-    requires { ⌜ i < 28 ⌝ }
-    ensures { λ r. ⌜ (r ≡ rowAt builtin i) × Small r ⌝ }
+// The row in force on a covered day. No offset is over 101: by then each row whose day has come has begun.
+fn row_on_day(day: u64) -> usize
+    requires { ⌜ (719892 ≤ day) × (day < 739616) ⌝ }
+    ensures { λ i. ⌜ OnDay builtin day i ⌝ }
+{
+    row_in_second(day * 86400 + 101)
+}
+
+// A covered day, on which row i is in force. It is an ordinary one, unless the next row begins where it ends.
+fn day_in_row(day: u64, i: usize) -> Day
+    requires { ⌜ OnDay builtin day i ⌝ }
+    ensures { λ r. ⌜ r ≡ dayOn builtin day ⌝ }
+{
+    let offset = offset_at(i);
+    let start = day * 86400 + offset;
+    if i < 27 {
+        let next = row_at(i + 1);
+        if day + 1 == next.day {
+            let length = 86400 + next.offset - offset;
+            return Day { start, length };
+        }
+    }
+    let length = 86400;
+    Day { start, length }
+}
+
+// The reading of a covered TAI second.
+fn locate(s: u64) -> Reading
+    requires { ⌜ (62198668874 ≤ s) × (s < 63902822501) ⌝ }
+    ensures { λ r. ⌜ r ≡ reading builtin (dayHolding builtin s) (s - start builtin (dayHolding builtin s)) ⌝ }
+{
+    let i = row_in_second(s);
+    let offset = offset_at(i);
+    let day = (s - offset) / 86400;
+    let second = (s - offset) % 86400;
+    if second == 0 {
+        let end = end_at(i);
+        if end.day == day {
+            // 23:59:60 stands in its own day
+            return Reading {
+                day: day - 1,
+                second: 86400,
+                offset,
+            };
+        }
+    }
+    Reading {
+        day,
+        second,
+        offset,
+    }
+}
+
+// The row in force in a covered TAI second: its number is how many later rows have begun.
+fn row_in_second(s: u64) -> usize
+    requires { ⌜ (62198668874 ≤ s) × (s < 63902822501) ⌝ }
+    ensures { λ i. ⌜ InSecond builtin s i ⌝ }
 {
     let rows = LEAPS;
-    let day = rows[i][0] as u64 + 714779;
-    let offset = rows[i][1] as u64 + 64;
-    Row { day, offset }
+    // from 1958-01-01, as the rows are
+    let t = (s - 61756905664) as u32;
+    // all are counted, and in 32 bits: so it compiles without a branch
+    let mut n: u32 = 0;
+    let mut i = 1;
+    while i < 28 {
+        let begin = rows[i][0] as u32 * 86400 + rows[i][1] as u32;
+        n += (begin <= t) as u32;
+        i += 1;
+    }
+    n as usize
+}
+
+// The offset of row i: each row adds one.
+fn offset_at(i: usize) -> u64
+    requires { ⌜ i < 28 ⌝ }
+    ensures { λ r. ⌜ r ≡ rowAt builtin i .offset ⌝ }
+{
+    i as u64 + 74
 }
 
 // What ends row i: the next row, or the first day past the cover.
@@ -217,96 +289,13 @@ fn end_at(i: usize) -> Row
     }
 }
 
-// The row in force on a covered day: from the last one back, where most days are.
-fn row_on_day(day: u64) -> usize
-    requires { ⌜ (719892 ≤ day) × (day < 739616) ⌝ }
-    ensures { λ i. ⌜ OnDay builtin day i ⌝ }
-{
-    // the table in a local: a constant is laid out anew at each use
-    let rows = LEAPS;
-    let mut i = 27;
-    while 0 < i {
-        if rows[i][0] as u64 + 714779 <= day {
-            return i;
-        }
-        i -= 1;
-    }
-    i
-}
-
-// The row in force in a covered TAI second.
-fn row_in_second(s: u64) -> usize
-    requires { ⌜ (62198668874 ≤ s) × (s < 63902822501) ⌝ }
-    ensures { λ i. ⌜ InSecond builtin s i ⌝ }
+// Row i.
+fn row_at(i: usize) -> Row
+    requires { ⌜ i < 28 ⌝ }
+    ensures { λ r. ⌜ (r ≡ rowAt builtin i) × Small r ⌝ }
 {
     let rows = LEAPS;
-    let mut i = 27;
-    while 0 < i {
-        if (rows[i][0] as u64 + 714779) * 86400 + (rows[i][1] as u64 + 64) <= s {
-            return i;
-        }
-        i -= 1;
-    }
-    i
-}
-
-// The seconds of a covered day, on which row i is in force.
-fn length_of(day: u64, i: usize) -> u64
-    requires { ⌜ OnDay builtin day i ⌝ }
-    ensures { λ r. ⌜ r ≡ dayLength builtin day ⌝ }
-{
-    let row = row_at(i);
-    let end = end_at(i);
-    if day + 1 < end.day {
-        return 86400;
-    }
-    86400 + end.offset - row.offset
-}
-
-// A covered day, on which row i is in force. It is an ordinary one, unless the next row begins where it ends.
-fn day_in_row(day: u64, i: usize) -> Day
-    requires { ⌜ OnDay builtin day i ⌝ }
-    ensures { λ r. ⌜ r ≡ dayOn builtin day ⌝ }
-{
-    let rows = LEAPS;
+    let day = rows[i][0] as u64 + 714779;
     let offset = rows[i][1] as u64 + 64;
-    let start = day * 86400 + offset;
-    if i < 27 {
-        let next = rows[i + 1][0] as u64 + 714779;
-        if day + 1 == next {
-            let after = rows[i + 1][1] as u64 + 64;
-            let length = 86400 + after - offset;
-            return Day { start, length };
-        }
-    }
-    let length = 86400;
-    Day { start, length }
-}
-
-// The reading of a covered TAI second.
-fn locate(s: u64) -> Reading
-    requires { ⌜ (62198668874 ≤ s) × (s < 63902822501) ⌝ }
-    ensures { λ r. ⌜ r ≡ reading builtin (dayHolding builtin s) (s - start builtin (dayHolding builtin s)) ⌝ }
-{
-    let i = row_in_second(s);
-    let row = row_at(i);
-    let day = day_in(s, row, end_at(i));
-    Reading {
-        day: day,
-        second: s - (day * 86400 + row.offset),
-        offset: row.offset,
-    }
-}
-
-// The day of a second between a row's begin and its end: the last day before the end has 23:59:60 too.
-fn day_in(s: u64, row: Row, end: Row) -> u64
-    requires { ⌜ (row .offset ≤ s) × (0 < end .day) ⌝ }
-    ensures { λ r. ⌜ r ≡ min ((s - row .offset) / 86400) (end .day - 1) ⌝ }
-{
-    let day = (s - row.offset) / 86400;
-    let last = end.day - 1;
-    if day < last {
-        return day;
-    }
-    last
+    Row { day, offset }
 }

@@ -3,13 +3,11 @@ use mathlib.Core.Path.{_≡_, sym, ap, _∙_}
 use Prim.Native.Nat.{_+_, _<_}
 use native.Mathlib.Omega.{arith}
 use borrow.Author.Needs.{needs}
-use lib.IntN.{ℤ, pos}
+use lib.IntN.{pos}
 use mir.Syntax.{w64}
 use Rattle.base.specs.Seats.{seatOf}
-use Rattle.base.specs.declared.Seat.{Seat}
 use Rattle.base.specs.Outcome.{done}
 use Rattle.base.proofs.Signed.{back}
-use Rattle.leap.specs.Builtin.{builtin}
 use Rattle.leap.proofs.Cover.{seconds-in, reading-in, reading-out}
 use Rattle.leap.proofs.reading_of.Statement.{statement}
 use Rattle.leap.proofs.reading_of.Tie as tie

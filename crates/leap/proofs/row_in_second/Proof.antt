@@ -1,83 +1,134 @@
--- `leap::row_in_second` meets its contract. The loop's invariant: row i has not ended before the second.
-use mathlib.Core.Path.{_≡_, ap}
-use Prim.Native.Nat.{_-_, _<_}
+-- `leap::row_in_second` meets its contract. The loop's invariant: of the rows before row i, row n is the last that has begun.
+use mathlib.Core.Logic.{_⊎_, inl, inr, ⊎-elim}
+use mathlib.Core.Path.{_≡_, refl}
+use mathlib.Core.Bool.{Bool, true, false}
+use mathlib.Core.List.{[]}
+use Prim.Native.Nat.{ℕ, _+_, _-_, _*_, _<_, _≤_}
 use native.Mathlib.Omega.{arith}
 use borrow.Author.Needs.{needs}
-use Rattle.leap.specs.Builtin.{builtin}
+use borrow.Author.Tests.{leb-true, leb-false}
+use lib.Dec.{leb}
+use lib.ListN.{getD}
+use mir.Val.{boolByte}
+use Rattle.leap.specs.Builtin.{published, builtin}
 use Rattle.leap.specs.Inner.{rowAt, endAt, begins}
-use Rattle.leap.proofs.Rows.{end-back}
-use Rattle.leap.proofs.Builtin.{later-rows, row-read}
+use Rattle.leap.proofs.Rows.{end-next, begins-rise}
+use Rattle.leap.proofs.Builtin.{builtin-good, later-rows, row-read}
 use Rattle.leap.proofs.row_in_second.Statement.{statement}
 use Rattle.leap.proofs.row_in_second.Tie as tie
 
+record Counted (s n i : ℕ) : Type 0 where
+  row : n < i
+  end : i ≤ 28
+  low : begins (rowAt builtin n) ≤ s
+  high : (n + 1 ≡ i) ⊎ ((n + 1 < i) × (s < begins (rowAt builtin (n + 1))))
+
+-- when row i begins, as the code reads it
+abbrev begin : ℕ → ℕ
+begin i = getD (getD published i []) 0 0 * 86400 + getD (getD published i []) 1 0
+
+-- no row has begun that comes after one that has not
+last-begun : (s n i : ℕ) → i < 28 → Counted s n i → begins (rowAt builtin i) ≤ s → n + 1 ≡ i
+last-begun s n i h w k =
+    ⊎-elim
+    (λ (e : n + 1 ≡ i). e)
+    (λ u. absurd (omega (arith, u .1, begins-rise builtin builtin-good (n + 1) i (omega (arith, u .0)) (omega (arith, later-rows)))))
+    (w .high)
+
+turn : (s n i : ℕ) (b : Bool) → leb (begin i) (s - 61756905664) ≡ b → 61756905664 ≤ s → i < 28 → Counted s n i → Counted s (n + boolByte b) (i + 1)
+turn s n i true q l h w =
+    let k : begins (rowAt builtin i) ≤ s = omega (arith, row-read i h, leb-true (begin i) (s - 61756905664) q) in
+    let e : n + 1 ≡ i = last-begun s n i h w k in
+    record { row = omega arith; end = omega arith; low = rw e k; high = inl (omega arith) }
+turn s n i false q l h w =
+    let k : s < begins (rowAt builtin i) = omega (arith, row-read i h, leb-false (begin i) (s - 61756905664) q) in
+    let e : n + boolByte false ≡ n = omega arith in
+    rw e record {
+      row = omega (arith, w .row);
+      end = omega arith;
+      low = w .low;
+      high = inr (⊎-elim (λ (f : n + 1 ≡ i). (omega arith, rw f k)) (λ u. (omega (arith, u .0), u .1)) (w .high));
+    }
+
+-- all counted: the next row has not begun, and after the last the cover ends
+ended : (s n : ℕ) → s < 63902822501 → Counted s n 28 → s < begins (endAt builtin n)
+unfolding builtin
+ended s n h w =
+    ⊎-elim
+    (λ (f : n + 1 ≡ 28). let e : n ≡ 27 = omega arith in rw e h)
+    (λ u. rw (end-next builtin n (omega (arith, u .0))) (u .1))
+    (w .high)
+
 abbrev Inv-loop : tie.InvT-loop
-Inv-loop s rows i₀ i = (i < 28) × (s < begins (endAt builtin i))
+Inv-loop s rows t n₀ i₀ n i = Counted s n i
 
 abbrev μ-loop : tie.MeasureT-loop
-μ-loop s rows i₀ i = i
+μ-loop s rows t n₀ i₀ n i = 28 - i
+
+sub-t : tie.Need-sub-t Inv-loop μ-loop
+sub-t c = search needs
+
+cast-t : tie.Need-cast-t Inv-loop μ-loop
+cast-t c = search needs
 
 loop-holds : tie.Need-loop-holds Inv-loop μ-loop
 unfolding builtin
-loop-holds c = (omega arith, omega arith)
+loop-holds c = record { row = omega arith; end = omega arith; low = omega arith; high = inl (omega arith) }
 
-mul-if1 : tie.Need-mul-if1 Inv-loop μ-loop
-mul-if1 c = omega arith
+mul-begin : tie.Need-mul-begin Inv-loop μ-loop
+mul-begin c = omega arith
 
-index-1-if1 : tie.Need-index-1-if1 Inv-loop μ-loop
-index-1-if1 c = omega arith
+index-1-begin : tie.Need-index-1-begin Inv-loop μ-loop
+index-1-begin c = omega arith
 
-index-2-if1 : tie.Need-index-2-if1 Inv-loop μ-loop
-index-2-if1 c = search needs
+index-2-begin : tie.Need-index-2-begin Inv-loop μ-loop
+index-2-begin c = search needs
 
-cast-if1 : tie.Need-cast-if1 Inv-loop μ-loop
-cast-if1 c = let l = c .before .before .loop in omega (arith, row-read (l .i) (l .inv .0))
+cast-begin : tie.Need-cast-begin Inv-loop μ-loop
+cast-begin c = let l = c .before .before .loop in omega (arith, row-read (l .i) (omega arith))
 
-add-if1 : tie.Need-add-if1 Inv-loop μ-loop
-add-if1 c = let l = c .before .before .loop in omega (arith, row-read (l .i) (l .inv .0))
+mul-begin-2 : tie.Need-mul-begin-2 Inv-loop μ-loop
+mul-begin-2 c = let l = c .before .before .loop in omega (arith, row-read (l .i) (omega arith))
 
-mul-if1-2 : tie.Need-mul-if1-2 Inv-loop μ-loop
-mul-if1-2 c = let l = c .before .before .loop in omega (arith, row-read (l .i) (l .inv .0))
+mul-begin-3 : tie.Need-mul-begin-3 Inv-loop μ-loop
+mul-begin-3 c = omega arith
 
-mul-if1-3 : tie.Need-mul-if1-3 Inv-loop μ-loop
-mul-if1-3 c = omega arith
+index-1-begin-2 : tie.Need-index-1-begin-2 Inv-loop μ-loop
+index-1-begin-2 c = omega arith
 
-index-1-if1-2 : tie.Need-index-1-if1-2 Inv-loop μ-loop
-index-1-if1-2 c = omega arith
+index-2-begin-2 : tie.Need-index-2-begin-2 Inv-loop μ-loop
+index-2-begin-2 c = search needs
 
-index-2-if1-2 : tie.Need-index-2-if1-2 Inv-loop μ-loop
-index-2-if1-2 c = search needs
+cast-begin-2 : tie.Need-cast-begin-2 Inv-loop μ-loop
+cast-begin-2 c = let l = c .before .before .before .loop in omega (arith, row-read (l .i) (omega arith))
 
-cast-if1-2 : tie.Need-cast-if1-2 Inv-loop μ-loop
-cast-if1-2 c = let l = c .before .before .before .loop in omega (arith, row-read (l .i) (l .inv .0))
+add-begin : tie.Need-add-begin Inv-loop μ-loop
+add-begin c = let l = c .before .before .before .loop in omega (arith, row-read (l .i) (omega arith))
 
-add-if1-2 : tie.Need-add-if1-2 Inv-loop μ-loop
-add-if1-2 c = let l = c .before .before .before .loop in omega (arith, row-read (l .i) (l .inv .0))
+cast-n : tie.Need-cast-n Inv-loop μ-loop
+cast-n c = search needs
 
-add-if1-3 : tie.Need-add-if1-3 Inv-loop μ-loop
-add-if1-3 c = let l = c .before .before .before .loop in omega (arith, row-read (l .i) (l .inv .0))
+loop-again : tie.Need-loop-again Inv-loop μ-loop
+loop-again c = let l = c .before .before .before .loop in turn _ (l .n) (l .i) _ refl (omega arith) (omega arith) (l .inv)
 
-returns : tie.Need-returns Inv-loop μ-loop
-returns c =
-    let l = c .before .before .before .before .loop in
-    record { row = omega arith; low = omega (arith, row-read (l .i) (l .inv .0)); high = l .inv .1 }
+add-n : tie.Need-add-n Inv-loop μ-loop
+add-n c = let w = loop-again c in omega (arith, w .row, w .end)
 
-sub-i : tie.Need-sub-i Inv-loop μ-loop
-sub-i c = omega arith
+add-i : tie.Need-add-i Inv-loop μ-loop
+add-i c = omega arith
 
 loop-less : tie.Need-loop-less Inv-loop μ-loop
 loop-less c = omega arith
 
-loop-again : tie.Need-loop-again Inv-loop μ-loop
-loop-again c =
-    let l = c .before .before .before .before .loop in
-    let e : endAt builtin (l .i - 1) ≡ rowAt builtin (l .i) = end-back builtin (l .i) (rowAt builtin (l .i)) (omega arith) (omega (arith, later-rows)) (λ k. rowAt builtin (l .i)) in
-    (omega arith, omega (arith, ap begins e, row-read (l .i) (l .inv .0)))
+cast-result : tie.Need-cast-result Inv-loop μ-loop
+cast-result c = search needs
 
-returns-2 : tie.Need-returns-2 Inv-loop μ-loop
-unfolding builtin
-returns-2 c =
-    let e : c .before .loop .i ≡ 0 = omega arith in
-    record { row = omega arith; low = rw e (omega arith); high = c .before .loop .inv .1 }
+returns : tie.Need-returns Inv-loop μ-loop
+returns c =
+    let l = c .before .loop in
+    let e : l .i ≡ 28 = omega (arith, l .inv .end) in
+    let w = rw e at (l .inv) in
+    record { row = w .row; low = w .low; high = ended _ (l .n) (c .before .before .pre .1) w }
 
 pub row-in-second-spec : {M : Type 1} → statement M
 row-in-second-spec =
@@ -85,21 +136,23 @@ row-in-second-spec =
     (tie.spec
     Inv-loop
     μ-loop
+    sub-t
+    cast-t
     loop-holds
-    mul-if1
-    index-1-if1
-    index-2-if1
-    cast-if1
-    add-if1
-    mul-if1-2
-    mul-if1-3
-    index-1-if1-2
-    index-2-if1-2
-    cast-if1-2
-    add-if1-2
-    add-if1-3
-    returns
-    sub-i
+    mul-begin
+    index-1-begin
+    index-2-begin
+    cast-begin
+    mul-begin-2
+    mul-begin-3
+    index-1-begin-2
+    index-2-begin-2
+    cast-begin-2
+    add-begin
+    cast-n
+    add-n
+    add-i
     loop-less
     loop-again
-    returns-2)
+    cast-result
+    returns)

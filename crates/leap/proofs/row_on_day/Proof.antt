@@ -1,78 +1,24 @@
--- `leap::row_on_day` meets its contract. The loop's invariant: row i has not ended before the day.
-use mathlib.Core.Path.{_≡_, ap}
-use Prim.Native.Nat.{_-_, _<_}
+-- `leap::row_on_day` meets its contract.
 use native.Mathlib.Omega.{arith}
 use borrow.Author.Needs.{needs}
-use Rattle.leap.specs.declared.Row.{Row}
-use Rattle.leap.specs.Builtin.{builtin}
-use Rattle.leap.specs.Inner.{rowAt, endAt}
-use Rattle.leap.proofs.Rows.{end-back}
-use Rattle.leap.proofs.Builtin.{later-rows, row-read}
+use Rattle.leap.proofs.Builtin.{end-small}
 use Rattle.leap.proofs.row_on_day.Statement.{statement}
 use Rattle.leap.proofs.row_on_day.Tie as tie
 
-abbrev Inv-loop : tie.InvT-loop
-Inv-loop day rows i₀ i = (i < 28) × (day < endAt builtin i .day)
+mul-row-in-second : tie.Need-mul-row-in-second
+mul-row-in-second c = search needs
 
-abbrev μ-loop : tie.MeasureT-loop
-μ-loop day rows i₀ i = i
+add-row-in-second : tie.Need-add-row-in-second
+add-row-in-second c = search needs
 
-loop-holds : tie.Need-loop-holds Inv-loop μ-loop
-unfolding builtin
-loop-holds c = (omega arith, omega arith)
+row-in-second-requires : tie.Need-row-in-second-requires
+row-in-second-requires c κs = search needs
 
-mul-if1 : tie.Need-mul-if1 Inv-loop μ-loop
-mul-if1 c = omega arith
-
-index-1-if1 : tie.Need-index-1-if1 Inv-loop μ-loop
-index-1-if1 c = omega arith
-
-index-2-if1 : tie.Need-index-2-if1 Inv-loop μ-loop
-index-2-if1 c = search needs
-
-cast-if1 : tie.Need-cast-if1 Inv-loop μ-loop
-cast-if1 c = let i = c .before .before .loop .i in omega (arith, row-read i (c .before .before .loop .inv .0))
-
-add-if1 : tie.Need-add-if1 Inv-loop μ-loop
-add-if1 c = let i = c .before .before .loop .i in omega (arith, row-read i (c .before .before .loop .inv .0))
-
-returns : tie.Need-returns Inv-loop μ-loop
+returns : tie.Need-returns
 returns c =
-    let l = c .before .before .before .loop in
-    record { row = omega arith; low = omega (arith, row-read (l .i) (l .inv .0)); high = l .inv .1 }
-
-sub-i : tie.Need-sub-i Inv-loop μ-loop
-sub-i c = omega arith
-
-loop-less : tie.Need-loop-less Inv-loop μ-loop
-loop-less c = omega arith
-
-loop-again : tie.Need-loop-again Inv-loop μ-loop
-loop-again c =
-    let l = c .before .before .before .loop in
-    let e : endAt builtin (l .i - 1) ≡ rowAt builtin (l .i) = end-back builtin (l .i) (rowAt builtin (l .i)) (omega arith) (omega (arith, later-rows)) (λ k. rowAt builtin (l .i)) in
-    (omega arith, omega (arith, ap (λ (x : Row). x .day) e, row-read (l .i) (l .inv .0)))
-
-returns-2 : tie.Need-returns-2 Inv-loop μ-loop
-unfolding builtin
-returns-2 c =
-    let e : c .before .loop .i ≡ 0 = omega arith in
-    record { row = omega arith; low = rw e (omega arith); high = c .before .loop .inv .1 }
+    let w = c .row-in-second .ensures in
+    record { row = w .row; low = omega (arith, w .low); high = omega (arith, w .high, end-small _ (w .row) .offset-high) }
 
 pub row-on-day-spec : {M : Type 1} → statement M
 row-on-day-spec =
-    tie.close
-    (tie.spec
-    Inv-loop
-    μ-loop
-    loop-holds
-    mul-if1
-    index-1-if1
-    index-2-if1
-    cast-if1
-    add-if1
-    returns
-    sub-i
-    loop-less
-    loop-again
-    returns-2)
+    tie.close (tie.spec mul-row-in-second add-row-in-second row-in-second-requires returns)

@@ -1,15 +1,14 @@
 -- `leap::second_at` meets its contract.
-use mathlib.Core.Path.{_≡_, sym, ap, _∙_}
-use Prim.Native.Nat.{ℕ, _+_, _*_, _<_, _≤_}
+use mathlib.Core.Logic.{⊎-elim}
+use mathlib.Core.Path.{sym, ap, _∙_}
+use Prim.Native.Nat.{_<_}
 use native.Mathlib.Omega.{arith}
 use borrow.Author.Needs.{needs}
-use lib.ListN.{length}
-use Rattle.base.specs.Outcome.{done}
-use Rattle.leap.specs.declared.Row.{Row}
-use Rattle.leap.specs.Table.{offset}
+use Rattle.leap.specs.declared.Day.{Day}
+use Rattle.leap.specs.Table.{dayLength}
 use Rattle.leap.specs.Builtin.{builtin}
-use Rattle.leap.proofs.Builtin.{builtin-good, later-rows, day-in, day-under, day-over}
-use Rattle.leap.proofs.Rows.{offset-in}
+use Rattle.leap.proofs.Builtin.{day-in, day-under, day-over, row-small}
+use Rattle.leap.proofs.Rule.{offset-on, least-length}
 use Rattle.leap.proofs.Outcomes.{second-over, second-uncovered, second-missing, second-done}
 use Rattle.leap.proofs.second_at.Statement.{statement}
 use Rattle.leap.proofs.second_at.Tie as tie
@@ -26,33 +25,41 @@ returns-3 c = sym (second-uncovered builtin _ _ (omega arith) (day-over _ (omega
 row-on-day-requires : tie.Need-row-on-day-requires
 row-on-day-requires c κs = search needs
 
-length-of-requires : tie.Need-length-of-requires
-length-of-requires c κs = search needs
+day-in-row-requires : tie.Need-day-in-row-requires
+day-in-row-requires c κs = search needs
 
 returns-4 : tie.Need-returns-4
 returns-4 c =
-    sym (second-missing builtin _ _ (omega arith) (day-in _ (omega arith) (omega arith)) (rw (c .before .length-of .ensures) at (c .if4 .taken)))
+    let l = ap (λ (x : Day). x .length) (c .before .day-in-row .ensures) in
+    sym (second-missing builtin _ _ (omega arith) (day-in _ (omega arith) (omega arith)) (omega (arith, l)))
 
-row-at-requires : tie.Need-row-at-requires
-row-at-requires c κs = search needs
+mul-s : tie.Need-mul-s
+mul-s c = search needs
 
-mul-t9 : tie.Need-mul-t9
-mul-t9 c = search needs
+add-s : tie.Need-add-s
+add-s c = search needs
 
-add-t11 : tie.Need-add-t11
-add-t11 c = search needs
+offset-at-requires : tie.Need-offset-at-requires
+offset-at-requires c κs = search needs
 
-add-t12 : tie.Need-add-t12
-add-t12 c = search needs
+add-s-2 : tie.Need-add-s-2
+add-s-2 c =
+    let d = c .before .before in
+    omega (arith, c .offset-at .ensures, row-small (d .row-on-day .result) (d .row-on-day .ensures .row) .offset-high)
+
+-- the day has the second: 86,400 was asked for, and any other it has
+has : (c : tie.Joined4) → c .before .before .before .before .before .args .second < dayLength builtin (c .before .before .before .before .before .args .day)
+has c =
+    let l = least-length _ _ (c .before .row-on-day .ensures) in
+    ⊎-elim
+    (λ a. omega (arith, a .0 .taken, a .2 .left, ap (λ (x : Day). x .length) (a .1 .ensures)))
+    (λ a. omega (arith, a .left))
+    (c .if4 .came)
 
 returns-5 : tie.Need-returns-5
 returns-5 c =
-    let r = c .before in
-    let l = r .before .before in
-    let d = l .before in
-    let day = d .before .before .before .before .args .day in
-    let o : offset builtin day ≡ r .row-at .result .offset = offset-in builtin builtin-good (d .row-on-day .result) (omega (arith, later-rows, d .row-on-day .ensures .row)) day (d .row-on-day .ensures .low) (d .row-on-day .ensures .high) ∙ sym (ap (λ (x : Row). x .offset) (r .row-at .ensures .0)) in
-    rw (← o) (sym (second-done builtin _ _ (omega arith) (day-in _ (omega arith) (omega arith)) (rw (l .length-of .ensures) at (r .before .if4 .left))))
+    let o = offset-on _ _ (c .before .before .row-on-day .ensures) ∙ sym (c .offset-at .ensures) in
+    rw (← o) (sym (second-done builtin _ _ (omega arith) (day-in _ (omega arith) (omega arith)) (has (c .before))))
 
 pub second-at-spec : {M : Type 1} → statement M
 second-at-spec =
@@ -62,10 +69,10 @@ second-at-spec =
     returns-2
     returns-3
     row-on-day-requires
-    length-of-requires
+    day-in-row-requires
     returns-4
-    row-at-requires
-    mul-t9
-    add-t11
-    add-t12
+    mul-s
+    add-s
+    offset-at-requires
+    add-s-2
     returns-5)

@@ -1,12 +1,10 @@
 -- `leap::second_of` meets its contract.
 use mathlib.Core.Path.{_≡_, sym, ap, _∙_}
-use Prim.Native.Nat.{_^_, _<_}
 use native.Mathlib.Omega.{arith}
 use borrow.Author.Needs.{needs}
 use mir.Syntax.{w64}
 use mir.Val.{toZ, ofZ}
-use Rattle.base.specs.Outcome.{done, refused, given}
-use Rattle.base.specs.Refusals.{number}
+use Rattle.base.specs.Outcome.{done, given}
 use Rattle.leap.specs.Table.{secondAt}
 use Rattle.leap.specs.Builtin.{builtin}
 use Rattle.leap.specs.Utc.{secondRaise, loweredBy, secondOf}

@@ -1,14 +1,12 @@
 -- `leap::utc_of_second` meets its contract.
-use mathlib.Core.Path.{_≡_, refl, sym, ap, _∙_}
+use mathlib.Core.Path.{_≡_, sym, ap, _∙_}
 use Prim.Native.Nat.{_≤_}
 use native.Mathlib.Omega.{arith}
 use borrow.Author.Needs.{needs}
-use lib.IntN.{ℤ}
 use mir.Syntax.{w64}
 use mir.Val.{toZ, ofZ}
 use Rattle.base.specs.Outcome.{done, given}
 use Rattle.base.proofs.Signed.{back}
-use Rattle.leap.specs.declared.Utc.{Utc}
 use Rattle.leap.specs.Builtin.{builtin}
 use Rattle.leap.specs.Utc.{dayRaise, offsetRaise, loweredBy, utc, readingOf, utcOfSecond}
 use Rattle.leap.specs.Answers.{saysReading}
