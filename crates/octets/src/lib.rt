@@ -78,15 +78,14 @@ pub fn decimal(s: &[u8], at: usize, w: usize) -> Counted
     let mut n: u64 = 0;
     let mut i = 0;
     while i < w {
-        let x = s[at + i];
+        let x = s[at + i] as u64;
         if x < 48 {
             return Counted::Bad;
         }
         if 57 < x {
             return Counted::Bad;
         }
-        let digit = x - 48;
-        n = n * 10 + digit as u64;
+        n = n * 10 + (x - 48);
         i += 1;
     }
     Counted::Done(n)

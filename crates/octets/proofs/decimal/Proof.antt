@@ -39,6 +39,9 @@ shared-slice-read-x c = search needs
 abbrev byte : tie.After-shared-slice-known2 Inv-loop μ-loop → ℕ
 byte c = getD (c .before .before .before .before .before .before .args .s .now) (c .before .before .before .before .before .before .args .at + c .before .before .loop .i) 0
 
+cast-x : tie.Need-cast-x Inv-loop μ-loop
+cast-x c = omega (arith, c .shared-slice-known2 .given (c .before .before .before .before .before .before .args .at + c .before .before .loop .i))
+
 returns-2 : tie.Need-returns-2 Inv-loop μ-loop
 returns-2 c = gives-bad (c .before .before .before .loop .inv) (omega arith) (and-no _ (lt-leb 48 (byte (c .before)) (omega arith)))
 
@@ -47,9 +50,6 @@ returns-3 c = gives-bad (c .before .before .before .before .loop .inv) (omega ar
 
 mul-n : tie.Need-mul-n Inv-loop μ-loop
 mul-n c = omega (arith, more digit-rule (c .before .before .before .before .loop .inv) (omega arith))
-
-cast-n : tie.Need-cast-n Inv-loop μ-loop
-cast-n c = search needs
 
 add-n : tie.Need-add-n Inv-loop μ-loop
 add-n c = omega (arith, more digit-rule (c .before .before .before .before .loop .inv) (omega arith))
@@ -79,10 +79,10 @@ decimal-spec =
     loop-holds
     add-x
     shared-slice-read-x
+    cast-x
     returns-2
     returns-3
     mul-n
-    cast-n
     add-n
     add-i
     loop-less
