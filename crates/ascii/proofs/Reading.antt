@@ -143,12 +143,11 @@ ticks-by false x d h = grain d h .1
 pub power-low : (d p : ℕ) → d ≤ 12 → p ≡ powerIn 10 20 d → (0 < p) × (0 < perSecond / p)
 power-low d p h f = rw (power-is d p h f) (ltb-true _ _ (down-at 13 (λ i. ltb 0 (10 ^ i)) refl d (omega arith)), grain d h .0)
 
-module _ (s : List ℕ) (at d n p : ℕ) (h : d ≤ 12) (e : n ≡ readAs s at d) (f : p ≡ powerIn 10 20 d) where
-  pub ticks-read : n * (perSecond / p) ≡ ticksAs s at d
-  ticks-read = rw (power-is d p h f, e) (ticks-by (figuresAt s at d) (numberAt s at d) d h)
+pub ticks-read : (s : List ℕ) (at d n : ℕ) → d ≤ 12 → n ≡ readAs s at d → n * (perSecond / 10 ^ d) ≡ ticksAs s at d
+ticks-read s at d n h e = rw e (ticks-by (figuresAt s at d) (numberAt s at d) d h)
 
-  pub ticks-fit : n ≤ 10 ^ d → n * (perSecond / p) ≤ perSecond
-  ticks-fit l = rw (power-is d p h f) (rw (grain d h .1) at (mul-le-mul-right (perSecond / 10 ^ d) l))
+pub ticks-fit : (d n : ℕ) → d ≤ 12 → n ≤ 10 ^ d → n * (perSecond / 10 ^ d) ≤ perSecond
+ticks-fit d n h l = rw (grain d h .1) at (mul-le-mul-right (perSecond / 10 ^ d) l)
 
 -- ---- all fields
 module _ {A : Type 0} (d c f : Bool) (day clock : Outcome ℕ) (g : ℕ → ℕ → A) where

@@ -1,7 +1,7 @@
 -- The texts that are written: how long they are, and how they are put in one after another.
 use mathlib.Core.Path.{_≡_, refl, sym, ap, _∙_}
 use mathlib.Core.Bool.{Bool, true, false}
-use mathlib.Core.List.{List, _++_, append-assoc}
+use mathlib.Core.List.{List, [], _∷_, _++_, append-assoc}
 use Prim.Native.Nat.{ℕ, zero, suc, _+_, _-_, _*_, _/_, _%_, _<_, _≤_}
 use native.Mathlib.Omega.{arith}
 use lib.ListN.{length, set, length-set, length-append}
@@ -12,7 +12,7 @@ use Rattle.scale.specs.Time.{Time, isRecord}
 use Rattle.octets.specs.Places.{digitOf, digits}
 use Rattle.octets.specs.Stores.{pasted, Stored}
 use Rattle.octets.proofs.Places.{length-places}
-use Rattle.octets.proofs.Pastes.{paste-none, paste-cons, stored, then}
+use Rattle.octets.proofs.Pastes.{paste-none, paste-cons, paste-one, stored, then}
 use Rattle.calendar.specs.Gregorian.{ordinalOn, dateIn}
 use Rattle.calendar.specs.declared.Ordinal.{Ordinal}
 use Rattle.calendar.specs.declared.Date.{Date}
@@ -59,6 +59,20 @@ module _ (old : List ℕ) {new : List ℕ} {r : Bool} (at w n : ℕ) where
   put-mark c h s =
       stored (let z : at + 1 + length (digits w n) ≤ length (set old at c) = omega (arith, digits-length w n, length-set old at c) in z) s .1
       ∙ paste-cons old at c (digits w n) (omega arith)
+
+-- a character and two digits, one by one
+pub put-pair : (old : List ℕ) (at c n : ℕ) → n < 100 → at + 3 ≤ length old → set (set (set old at c) (at + 1) (48 + n / 10)) (at + 2) (48 + n % 10) ≡ pasted old at (lead c 2 n)
+put-pair old at c n l h =
+    let x = 48 + n / 10 in
+    let y = 48 + n % 10 in
+    let one = set old at c in
+    let two = set one (at + 1) x in
+    let t : at + 1 + 1 ≡ at + 2 = omega arith in
+    let d : n / 10 ≡ n / 10 % 10 = omega arith in
+    paste-one two (at + 2) y (omega (arith, length-set one (at + 1) x, length-set old at c))
+    ∙ rw t at (paste-cons one (at + 1) x (y ∷ []) (omega (arith, length-set old at c)))
+    ∙ paste-cons old at c (x ∷ y ∷ []) (omega arith)
+    ∙ ap (λ (z : ℕ). pasted old at (c ∷ (48 + z) ∷ y ∷ [])) d
 
 -- ---- dates
 pub put-two : (old a b : List ℕ) (n at : ℕ) (o : Ordinal) → ordinalOn n ≡ o → at + 8 ≤ length old → a ≡ pasted old at (digits 4 (o .year)) → b ≡ pasted a (at + 4) (lead 45 3 (o .day)) → b ≡ pasted old at (dayText true n)

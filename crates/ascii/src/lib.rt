@@ -12,7 +12,7 @@ use scale::Record;
 use scale::RecordAnswer;
 ghost use mathlib.Core.Path.{_≡_};
 ghost use mathlib.Core.Bool.{true, false, cond};
-ghost use Prim.Native.Nat.{_+_, _-_, _*_, _^_, _≤_, _<_};
+ghost use Prim.Native.Nat.{_+_, _-_, _*_, _/_, _^_, _≤_, _<_};
 ghost use lib.ListN.{length};
 ghost use Rattle.base.specs.Outcome.{need, andThen};
 ghost use Rattle.scale.specs.Time.{perSecond};
@@ -42,6 +42,7 @@ ghost use Rattle.ascii.specs.Ascii.{
   fractionText,
   zoneText,
   codeText,
+  partOf,
   bytesOf,
 };
 ghost use Rattle.ascii.specs.Inner.{
@@ -252,8 +253,19 @@ fn fraction(s: &[u8], at: usize, d: usize) -> u64
         return 0;
     }
     let n = number(s, at, d);
+    n * unit(d)
+}
+
+// The ticks that the last of d digits counts. The default setting's three digits are spared a division.
+fn unit(d: usize) -> u64
+    requires { ⌜ d ≤ 12 ⌝ }
+    ensures { λ r. ⌜ (r ≡ perSecond / 10 ^ d) × (1 ≤ r) ⌝ }
+{
+    if d == 3 {
+        return 4_096_000_000_000;
+    }
     let power = octets::power10(d);
-    n * (Record::TICKS / power)
+    Record::TICKS / power
 }
 
 // The record of a moment of UTC.
@@ -288,16 +300,28 @@ pub fn write(r: Record, l: Layout, out: &mut [u8], at: usize) -> Written
     match answer {
         ReadingAnswer::Refused(why) => Written::Refused(why),
         ReadingAnswer::Done(u) => {
-            let power = octets::power10(digits);
-            let part = ticks / (Record::TICKS / power);
+            let part = part_of(digits, ticks);
             store(out, at, l, u.day, u.second, part)
         }
     }
 }
 
+// The fraction of a second that d digits show.
+fn part_of(d: usize, ticks: u64) -> u64
+    requires { ⌜ (d ≤ 12) × (ticks < perSecond) ⌝ }
+    ensures { λ r. ⌜ r ≡ partOf d ticks ⌝ }
+{
+    if d == 3 {
+        // in two steps, or the compiler joins it with the division below, which is by no constant
+        let millionths = (ticks / 4_096_000_000) as u32;
+        return (millionths / 1000) as u64;
+    }
+    ticks / unit(d)
+}
+
 // Stores a code where there is room.
 fn store(out: &mut [u8], at: usize, l: Layout, day: u64, second: u64, part: u64) -> Written
-    requires { ⌜ (day ≤ 3652058) × (l .digits ≤ 12) ⌝ }
+    requires { ⌜ (day ≤ 3652058) × (second ≤ 86400) × (l .digits ≤ 12) ⌝ }
     ensures { λ a. ⌜ Wrote (roomed (now (out .entry)) at (codeText l day second part)) at (now (out .entry)) (now (out .exit)) a ⌝ }
 {
     let n = size(l);
@@ -314,7 +338,7 @@ fn store(out: &mut [u8], at: usize, l: Layout, day: u64, second: u64, part: u64)
 
 // Puts a code: the date, the clock, the fraction and Z.
 fn put_code(out: &mut [u8], at: usize, l: Layout, day: u64, second: u64, part: u64)
-    requires { ⌜ (day ≤ 3652058) × (l .digits ≤ 12) × (at + width l ≤ length (now out)) ⌝ }
+    requires { ⌜ (day ≤ 3652058) × (second ≤ 86400) × (l .digits ≤ 12) × (at + width l ≤ length (now out)) ⌝ }
     ensures { λ _. ⌜ now (out .exit) ≡ pasted (now (out .entry)) at (codeText l day second part) ⌝ }
 {
     let t = put_day(out, at, l.ordinal, day);
@@ -361,22 +385,22 @@ fn put_date(out: &mut [u8], at: usize, day: u64)
         DateAnswer::Refused(_) => {}
         DateAnswer::Done(d) => {
             octets::put_decimal(out, at, 4, d.year);
-            put_lead(out, at + 4, 45, 2, d.month);
-            put_lead(out, at + 7, 45, 2, d.day);
+            put_pair(out, at + 4, 45, d.month);
+            put_pair(out, at + 7, 45, d.day);
         }
     }
 }
 
 // Puts T and the clock of a second of the day.
 fn put_clock(out: &mut [u8], at: usize, second: u64)
-    requires { ⌜ at + 9 ≤ length (now out) ⌝ }
+    requires { ⌜ (second ≤ 86400) × (at + 9 ≤ length (now out)) ⌝ }
     ensures { λ _. ⌜ now (out .exit) ≡ pasted (now (out .entry)) at (clockText second) ⌝ }
 {
     let m = clock::minute_of(second);
     let sec = second - m * 60;
-    put_lead(out, at, 84, 2, m / 60);
-    put_lead(out, at + 3, 58, 2, m % 60);
-    put_lead(out, at + 6, 58, 2, sec);
+    put_pair(out, at, 84, m / 60);
+    put_pair(out, at + 3, 58, m % 60);
+    put_pair(out, at + 6, 58, sec);
 }
 
 // Puts a fraction of d digits with its period, and says where it ends.
@@ -399,6 +423,17 @@ fn put_zone(out: &mut [u8], at: usize, zone: bool)
     if zone {
         out[at] = 90;
     }
+}
+
+// Puts a character and the two digits of n.
+fn put_pair(out: &mut [u8], at: usize, c: u8, n: u64)
+    requires { ⌜ (n < 100) × (at + 3 ≤ length (now out)) ⌝ }
+    ensures { λ _. ⌜ now (out .exit) ≡ pasted (now (out .entry)) at (lead c 2 n) ⌝ }
+{
+    let two = n as u8;
+    out[at] = c;
+    out[at + 1] = 48 + two / 10;
+    out[at + 2] = 48 + two % 10;
 }
 
 // Puts a character and the last w digits of n.

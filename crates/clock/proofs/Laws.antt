@@ -17,14 +17,6 @@ minute-early n h = cond-yes _ _ (lt-ltb n 86400 h)
 pub minute-last : (n : ℕ) → 86400 ≤ n → minuteOf n ≡ 1439
 minute-last n h = cond-no _ _ (le-ltb n 86400 h)
 
--- it starts at or before the second
-pub minute-start : (n : ℕ) → minuteOf n * 60 ≤ n
-minute-start n = go (ltb n 86400) refl
-  where
-    go : (t : Bool) → ltb n 86400 ≡ t → cond t (n / 60) 1439 * 60 ≤ n
-    go true e = omega arith
-    go false e = omega (arith, ltb-false n 86400 e)
-
 -- ---- the clock that shows a second, which is in minute m of its day
 pub record Shown (n m : ℕ) : Type 0 where
   pub hour : m / 60 ≤ 23

@@ -10,7 +10,7 @@ put-day-requires : tie.Need-put-day-requires
 put-day-requires c κs = let a = c .before .before .args in (omega arith, omega (arith, width-of (a .l) (omega arith)))
 
 put-clock-requires : tie.Need-put-clock-requires
-put-clock-requires c κs = let a = c .before .before .before .before .before .before .args in omega (arith, width-of (a .l) (omega arith))
+put-clock-requires c κs = let a = c .before .before .before .before .before .before .args in (omega arith, omega (arith, width-of (a .l) (omega arith)))
 
 add-put-fraction : tie.Need-add-put-fraction
 add-put-fraction c = let a = c .before .before .before .before .before .before .before .before .before .before .args in omega (arith, front-in (a .l .ordinal), width-of (a .l) (omega arith))

@@ -1,11 +1,13 @@
 -- `ascii::put_date` meets its contract.
-use mathlib.Core.Path.{sym, ap, _∙_}
+use mathlib.Core.Path.{_≡_, sym, ap, _∙_}
+use Prim.Native.Nat.{_≤_}
 use native.Mathlib.Omega.{arith}
 use borrow.Author.Needs.{needs}
+use Rattle.base.specs.Outcome.{done}
 use Rattle.base.proofs.Ladders.{never, done-is}
-use Rattle.calendar.specs.Gregorian.{ordinalOn, dateIn}
+use Rattle.calendar.specs.Gregorian.{ordinalOn, dateIn, dateAt}
 use Rattle.calendar.specs.Answers.{saysDate}
-use Rattle.calendar.proofs.Promises.{date-at-done}
+use Rattle.calendar.proofs.Promises.{date-at-done, date-fields}
 use Rattle.ascii.proofs.Texts.{put-digits, put-three}
 use Rattle.ascii.proofs.put_date.Statement.{statement}
 use Rattle.ascii.proofs.put_date.Tie as tie
@@ -19,20 +21,27 @@ enum-told c = search needs
 enum-known-answer : tie.Need-enum-known-answer
 enum-known-answer c = search needs
 
+-- the date that was told, and its fields
+told : (c : tie.After-answer) → dateAt (c .before .before .before .before .args .day) ≡ done (c .answer .given .0 .0)
+told c = sym (c .before .before .date-at .ensures) ∙ ap saysDate (c .answer .given .1)
+
+fields : (c : tie.After-answer) → (c .answer .given .0 .0 .month ≤ 12) × (c .answer .given .0 .0 .day ≤ 31)
+fields c = omega (arith, date-fields _ _ (told c))
+
 put-decimal-requires : tie.Need-put-decimal-requires
 put-decimal-requires c κs = search needs
 
-add-put-lead : tie.Need-add-put-lead
-add-put-lead c = search needs
+add-put-pair : tie.Need-add-put-pair
+add-put-pair c = search needs
 
-put-lead-requires : tie.Need-put-lead-requires
-put-lead-requires c κs = search needs
+put-pair-requires : tie.Need-put-pair-requires
+put-pair-requires c κs = omega (arith, fields (c .before .before .before .before .before .before))
 
-add-put-lead-2 : tie.Need-add-put-lead-2
-add-put-lead-2 c = search needs
+add-put-pair-2 : tie.Need-add-put-pair-2
+add-put-pair-2 c = search needs
 
-put-lead-requires-2 : tie.Need-put-lead-requires-2
-put-lead-requires-2 c κs = search needs
+put-pair-requires-2 : tie.Need-put-pair-requires-2
+put-pair-requires-2 c κs = omega (arith, fields (c .before .before .before .before .before .before .before .before .before .before))
 
 returns : tie.Need-returns
 returns c =
@@ -52,8 +61,8 @@ returns-2 c =
     let b = k .before .before in
     let a = b .before .before .args in
     let t = k .answer .given .0 .0 in
-    let e = done-is (dateIn (ordinalOn (a .day))) t (sym (date-at-done (a .day) (omega arith)) ∙ sym (b .date-at .ensures) ∙ ap saysDate (k .answer .given .1)) in
-    put-three (a .out .now) _ _ _ (a .day) (a .at) t e (omega arith) (put-digits (a .out .now) (a .at) 4 (t .year) (omega arith) (p .put-decimal .ensures)) (q .put-lead .ensures) (r .put-lead2 .ensures)
+    let e = done-is (dateIn (ordinalOn (a .day))) t (sym (date-at-done (a .day) (omega arith)) ∙ told k) in
+    put-three (a .out .now) _ _ _ (a .day) (a .at) t e (omega arith) (put-digits (a .out .now) (a .at) 4 (t .year) (omega arith) (p .put-decimal .ensures)) (q .put-pair .ensures) (r .put-pair2 .ensures)
 
 pub put-date-spec : {M : Type 1} → statement M
 put-date-spec =
@@ -63,10 +72,10 @@ put-date-spec =
     enum-told
     enum-known-answer
     put-decimal-requires
-    add-put-lead
-    put-lead-requires
-    add-put-lead-2
-    put-lead-requires-2
+    add-put-pair
+    put-pair-requires
+    add-put-pair-2
+    put-pair-requires-2
     returns
     same-length
     returns-2)

@@ -1,6 +1,8 @@
 -- `ascii::write` meets its contract.
 use mathlib.Core.Path.{_≡_, sym, ap, _∙_}
+use Prim.Native.Nat.{_^_}
 use native.Mathlib.Omega.{arith}
+use lib.Dec.{lit<}
 use mir.Syntax.{w64}
 use mir.Val.{toZ, ofZ}
 use borrow.Author.Tests.{not-true, not-false}
@@ -8,14 +10,16 @@ use borrow.Author.Needs.{needs}
 use Rattle.base.specs.declared.Refusal.the-variants.{Range, Unsupported}
 use Rattle.base.specs.Outcome.{done}
 use Rattle.scale.specs.Answers.{recorded}
+use Rattle.scale.proofs.Laws.{good-within}
 use Rattle.octets.proofs.Writes.{refuses}
 use Rattle.octets.specs.Writes.{roomed}
 use Rattle.leap.specs.Builtin.{builtin}
 use Rattle.leap.specs.Utc.{readingOf}
 use Rattle.leap.specs.Answers.{saysReading}
+use Rattle.leap.proofs.Builtin.{builtin-good}
 use Rattle.leap.proofs.Cover.{reading-low}
-use Rattle.ascii.proofs.Reading.{power-is, power-low}
 use Rattle.ascii.proofs.Texts.{bytes-invalid, bytes-digits, bytes-uncovered, bytes-done}
+use Rattle.ascii.proofs.Trips.{utc-read}
 use Rattle.ascii.proofs.write.Statement.{statement}
 use Rattle.ascii.proofs.write.Tie as tie
 
@@ -47,17 +51,18 @@ enum-known-answer c = search needs
 enum-known-answer-2 : tie.Need-enum-known-answer-2
 enum-known-answer-2 c = search needs
 
-power10-requires : tie.Need-power10-requires
-power10-requires c κs = search needs
-
-div-part : tie.Need-div-part
-div-part c = power-low (c .before .before .before .before .before .before .before .before .before .before .args .l .digits) _ (omega arith) (c .power10 .ensures) .0
-
-div-part-2 : tie.Need-div-part-2
-div-part-2 c = power-low (c .before .before .before .before .before .before .before .before .before .before .args .l .digits) _ (omega arith) (c .power10 .ensures) .1
+part-of-requires : tie.Need-part-of-requires
+part-of-requires c κs =
+    let x = c .before .before .before in
+    let v = x .before .before .before in
+    let g = sym (v .valid .ensures) ∙ not-false _ (x .before .before .if1 .left) in
+    (omega arith, good-within (2 ^ 41) (recorded (v .before .before .before .args .r)) (lit< tt) g .below)
 
 store-requires : tie.Need-store-requires
-store-requires c κs = let k = c .before .before .before in (omega (arith, reading-low _ _ (found k)), omega arith)
+store-requires c κs =
+    let k = c .before .before .before in
+    let z = k .before .before .before .before .before .before .before .before .args .r .sec in
+    (omega (arith, reading-low _ _ (found k)), utc-read builtin builtin-good z (k .answer2 .given .0 .0) (found k) .low, omega arith)
 
 returns-3 : tie.Need-returns-3
 returns-3 c =
@@ -78,7 +83,7 @@ returns-4 c =
     let v = x .before .before .before in
     let a = v .before .before .before .args in
     rw (bytes-done builtin (a .l) (recorded (a .r)) (roomed (a .out .now) (a .at)) (sym (v .valid .ensures) ∙ not-false _ (x .before .before .if1 .left)) (omega arith) (k .answer2 .given .0 .0) (found k))
-    (rw (power-is (a .l .digits) (p .power10 .result) (omega arith) (p .power10 .ensures)) at (s .store .ensures))
+    (rw (p .part-of .ensures) at (s .store .ensures))
 
 pub write-spec : {M : Type 1} → statement M
 write-spec =
@@ -90,9 +95,7 @@ write-spec =
     reading-of-requires
     enum-known-answer
     enum-known-answer-2
-    power10-requires
-    div-part
-    div-part-2
+    part-of-requires
     store-requires
     returns-3
     same-length

@@ -1,0 +1,27 @@
+-- `ascii::part_of` meets its contract.
+use native.Mathlib.Omega.{arith}
+use borrow.Author.Needs.{needs}
+use Rattle.ascii.proofs.part_of.Statement.{statement}
+use Rattle.ascii.proofs.part_of.Tie as tie
+
+cast-millionths : tie.Need-cast-millionths
+cast-millionths c = search needs
+
+cast-result : tie.Need-cast-result
+cast-result c = search needs
+
+returns : tie.Need-returns
+returns c = rw (c .if1 .taken) (omega arith)
+
+unit-requires : tie.Need-unit-requires
+unit-requires c κs = search needs
+
+div-result : tie.Need-div-result
+div-result c = search needs
+
+returns-2 : tie.Need-returns-2
+returns-2 c = rw (c .unit .ensures .0) (search needs)
+
+pub part-of-spec : {M : Type 1} → statement M
+part-of-spec =
+    tie.close (tie.spec cast-millionths cast-result returns unit-requires div-result returns-2)

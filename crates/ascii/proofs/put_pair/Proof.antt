@@ -1,0 +1,52 @@
+-- `ascii::put_pair` meets its contract.
+use native.Mathlib.Omega.{arith}
+use lib.ListN.{length-set}
+use borrow.Author.Needs.{needs}
+use Rattle.ascii.proofs.Texts.{put-pair}
+use Rattle.ascii.proofs.put_pair.Statement.{statement}
+use Rattle.ascii.proofs.put_pair.Tie as tie
+
+cast-two : tie.Need-cast-two
+cast-two c = search needs
+
+slice-write-out : tie.Need-slice-write-out
+slice-write-out c = search needs
+
+add-out : tie.Need-add-out
+add-out c = search needs
+
+add-out-2 : tie.Need-add-out-2
+add-out-2 c = search needs
+
+slice-write-out-2 : tie.Need-slice-write-out-2
+slice-write-out-2 c = simp length-set (omega arith)
+
+add-out-3 : tie.Need-add-out-3
+add-out-3 c = search needs
+
+add-out-4 : tie.Need-add-out-4
+add-out-4 c = search needs
+
+slice-write-out-3 : tie.Need-slice-write-out-3
+slice-write-out-3 c = simp length-set (omega arith)
+
+same-length : tie.Need-same-length
+same-length c = search needs
+
+returns : tie.Need-returns
+returns c = let a = c .args in put-pair (a .out .now) (a .at) (a .c) (a .n) (omega arith) (omega arith)
+
+pub put-pair-spec : {M : Type 1} → statement M
+put-pair-spec =
+    tie.close
+    (tie.spec
+    cast-two
+    slice-write-out
+    add-out
+    add-out-2
+    slice-write-out-2
+    add-out-3
+    add-out-4
+    slice-write-out-3
+    same-length
+    returns)
