@@ -252,18 +252,18 @@ fn fraction(s: &[u8], at: usize, d: usize) -> u64
     if d == 0 {
         return 0;
     }
-    let n = number(s, at, d);
-    n * unit(d)
+    if d == 3 {
+        // the default setting's, by constants
+        return number(s, at, 3) * 4_096_000_000_000;
+    }
+    number(s, at, d) * unit(d)
 }
 
-// The ticks that the last of d digits counts. The default setting's three digits are spared a division.
+// The ticks that the last of d digits counts.
 fn unit(d: usize) -> u64
     requires { ⌜ d ≤ 12 ⌝ }
     ensures { λ r. ⌜ (r ≡ perSecond / 10 ^ d) × (1 ≤ r) ⌝ }
 {
-    if d == 3 {
-        return 4_096_000_000_000;
-    }
     let power = octets::power10(d);
     Record::TICKS / power
 }
@@ -312,7 +312,7 @@ fn part_of(d: usize, ticks: u64) -> u64
     ensures { λ r. ⌜ r ≡ partOf d ticks ⌝ }
 {
     if d == 3 {
-        // in two steps, or the compiler joins it with the division below, which is by no constant
+        // by constants, and in two steps, or the compiler joins it with the division below
         let millionths = (ticks / 4_096_000_000) as u32;
         return (millionths / 1000) as u64;
     }

@@ -9,22 +9,43 @@ returns : tie.Need-returns
 returns c = let a = c .before .before .args in no-ticks (a .s .now) (a .at) (a .d) (c .if1 .taken)
 
 number-requires : tie.Need-number-requires
-number-requires c κs = (omega arith, c .before .before .pre .1 (omega (arith, c .if1 .left)))
+number-requires c κs = (omega arith, rw (c .if2 .taken) at (c .before .before .before .pre .1 (omega arith)))
+
+mul-result : tie.Need-mul-result
+mul-result c = search needs
+
+returns-2 : tie.Need-returns-2
+returns-2 c =
+    let a = c .before .before .before .before .args in
+    rw (c .before .if2 .taken) (ticks-read (a .s .now) (a .at) 3 (c .number .result) (omega arith) (c .number .ensures .0))
+
+number-requires-2 : tie.Need-number-requires-2
+number-requires-2 c κs = (omega arith, c .before .before .before .pre .1 (omega (arith, c .before .if1 .left)))
 
 unit-requires : tie.Need-unit-requires
 unit-requires c κs = search needs
 
-mul-result : tie.Need-mul-result
-mul-result c =
+mul-result-2 : tie.Need-mul-result-2
+mul-result-2 c =
     let n = c .before in
-    let a = n .before .before .before .args in
-    rw (c .unit .ensures .0) (omega (arith, ticks-fit (a .d) (n .number .result) (omega arith) (n .number .ensures .1)))
+    let a = n .before .before .before .before .args in
+    rw (c .unit .ensures .0) (omega (arith, ticks-fit (a .d) (n .number2 .result) (omega arith) (n .number2 .ensures .1)))
 
-returns-2 : tie.Need-returns-2
-returns-2 c =
+returns-3 : tie.Need-returns-3
+returns-3 c =
     let n = c .before in
-    let a = n .before .before .before .args in
-    rw (c .unit .ensures .0) (ticks-read (a .s .now) (a .at) (a .d) (n .number .result) (omega arith) (n .number .ensures .0))
+    let a = n .before .before .before .before .args in
+    rw (c .unit .ensures .0) (ticks-read (a .s .now) (a .at) (a .d) (n .number2 .result) (omega arith) (n .number2 .ensures .0))
 
 pub fraction-spec : {M : Type 1} → statement M
-fraction-spec = tie.close (tie.spec returns number-requires unit-requires mul-result returns-2)
+fraction-spec =
+    tie.close
+    (tie.spec
+    returns
+    number-requires
+    mul-result
+    returns-2
+    number-requires-2
+    unit-requires
+    mul-result-2
+    returns-3)
