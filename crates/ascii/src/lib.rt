@@ -254,7 +254,7 @@ fn fraction(s: &[u8], at: usize, d: usize) -> u64
     }
     if d == 3 {
         // the default setting's, by constants
-        return number(s, at, 3) * 4_096_000_000_000;
+        return number(s, at, 3) * (Record::TICKS / 1000);
     }
     number(s, at, d) * unit(d)
 }
@@ -313,7 +313,7 @@ fn part_of(d: usize, ticks: u64) -> u64
 {
     if d == 3 {
         // by constants, and in two steps, or the compiler joins it with the division below
-        let millionths = (ticks / 4_096_000_000) as u32;
+        let millionths = (ticks / (Record::TICKS / 1_000_000)) as u32;
         return (millionths / 1000) as u64;
     }
     ticks / unit(d)

@@ -4,6 +4,9 @@ use borrow.Author.Needs.{needs}
 use Rattle.ascii.proofs.part_of.Statement.{statement}
 use Rattle.ascii.proofs.part_of.Tie as tie
 
+div-millionths : tie.Need-div-millionths
+div-millionths c = search needs
+
 cast-millionths : tie.Need-cast-millionths
 cast-millionths c = search needs
 
@@ -24,4 +27,4 @@ returns-2 c = rw (c .unit .ensures .0) (search needs)
 
 pub part-of-spec : {M : Type 1} → statement M
 part-of-spec =
-    tie.close (tie.spec cast-millionths cast-result returns unit-requires div-result returns-2)
+    tie.close (tie.spec div-millionths cast-millionths cast-result returns unit-requires div-result returns-2)
