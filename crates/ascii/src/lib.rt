@@ -411,6 +411,10 @@ fn put_fraction(out: &mut [u8], at: usize, d: usize, part: u64) -> usize
     if d == 0 {
         return at;
     }
+    if d == 3 {
+        put_lead(out, at, 46, 3, part);
+        return at + 4;
+    }
     put_lead(out, at, 46, d, part);
     at + (d + 1)
 }
