@@ -6,21 +6,20 @@ use Prim.Native.Nat.{ℕ, _+_, _-_, _/_, _^_, _<_, _≤_}
 use native.Mathlib.Nat.{div-lt-iff-lt-mul, div-mul-le-self, le-div-iff-mul-le, mul-le-mul-right, mul-div-cancel}
 use native.Mathlib.Omega.{arith}
 use lib.Dec.{leb, ltb, lit<}
-use lib.IntN.{ℤ}
 use lib.ListN.{length}
 use borrow.Author.Tests.{leb-true, leb-false, le-leb, ltb-true}
 use Rattle.base.specs.Outcome.{Outcome, done, need, andThen, given}
+use Rattle.base.specs.Parts.{loweredBy}
 use Rattle.base.proofs.Bools.{and-true}
 use Rattle.base.proofs.Ladders.{done-is, need-yes, need-done, then-done, given-done}
-use Rattle.base.proofs.Signed.{le-yes, le-so, apart}
+use Rattle.base.proofs.Signed.{le-yes, le-so, apart, lower-is}
 use Rattle.scale.specs.Time.{perSecond, Time, worth, isRecord}
 use Rattle.scale.specs.Latest.{NotAfter, Latest}
 use Rattle.scale.proofs.Laws.{good-within, within-good, worth-parts}
-use Rattle.leap.specs.Table.{Table, good, start, covers, coversSecond, secondAt, reading, readingAt}
-use Rattle.leap.specs.Utc.{secondRaise, raisedBy, loweredBy, readingOf, secondOf}
+use Rattle.leap.specs.Table.{Table, good, start, coversSecond, secondAt, reading, readingAt}
+use Rattle.leap.specs.Utc.{secondRaise, readingOf, secondOf}
 use Rattle.leap.specs.declared.Reading.{Reading}
-use Rattle.leap.proofs.Raised.{raise-is, raise-lowered, lower-at, lower-is}
-use Rattle.leap.proofs.Promises.{second-is, second-then-reading, reading-then-second}
+use Rattle.leap.proofs.Promises.{second-then-reading, reading-back, second-back}
 use Rattle.ascii.specs.declared.Layout.{Layout}
 use Rattle.ascii.specs.declared.Moment.{Moment}
 use Rattle.ascii.specs.Shapes.{shaped}
@@ -97,33 +96,6 @@ module _ (t : Table) where
       ap length (sym (p .is)) ∙ code-width l (p .utc .day) (p .utc .second) (partOf (l .digits) (r .ticks)) (p .few)
 
   module _ (g : good t ≡ true) where
-    -- ---- the table, both ways
-    abbrev pub Utc : ℤ → ℕ → ℕ → Type 0
-    Utc z d x = readingOf t z ≡ done (reading t d x)
-
-    pub utc-again : (z : ℤ) (d x : ℕ) → secondOf t d x ≡ done z → Utc z d x
-    unfolding secondOf readingOf
-    utc-again z d x e =
-        let (s, (p, i)) = given-done (loweredBy secondRaise) (secondAt t d x) z e in
-        ap (λ (y : Outcome ℕ). andThen y (readingAt t)) (raise-lowered secondRaise s z i) ∙ second-then-reading t g d x s p
-
-    pub record Read (z : ℤ) (u : Reading) : Type 0 where
-      pub low : u .second ≤ 86400
-      pub covered : u .day ≤ t .last
-      pub back : secondOf t (u .day) (u .second) ≡ done z
-
-    pub utc-read : (z : ℤ) (u : Reading) → readingOf t z ≡ done u → Read z u
-    unfolding secondOf readingOf covers
-    utc-read z u e =
-        let (s, (a, b)) = then-done (raisedBy secondRaise z) (readingAt t) u e in
-        let p = reading-then-second t g s u b .0 in
-        let w = second-is t g (u .day) (u .second) s p in
-        record {
-          low = w .low;
-          covered = leb-true (u .day) (t .last) (and-true (leb (t .first .day) (u .day)) (leb (u .day) (t .last)) (w .covered) .1);
-          back = ap (given (loweredBy secondRaise)) p ∙ ap done (lower-at secondRaise s z (raise-is secondRaise s z a));
-        }
-
     -- ---- what was read is a record
     pub valid-read : start t (t .last + 1) ≤ 2 ^ 41 → (s : List ℕ) (x : Time) → textBy t s ≡ done x → isRecord x ≡ true
     unfolding secondOf readingAt coversSecond
@@ -146,7 +118,7 @@ module _ (t : Table) where
         let (p, r) = shaped-right s (w .right) in
         let f = numberAt s (frontOf (l .ordinal) + 1) (l .digits) in
         let k : partOf (l .digits) (x .ticks) ≡ f = ap (partOf (l .digits)) (w .part) ∙ part-again (l .digits) f (p .few) in
-        bytes-by t l x (λ c. done c) (valid-read top s x e) (p .few) (done (reading t (w .day) (w .second))) (utc-again (x .sec) (w .day) (w .second) (w .found))
+        bytes-by t l x (λ c. done c) (valid-read top s x e) (p .few) (done (reading t (w .day) (w .second))) (second-back t g (w .day) (w .second) (x .sec) (w .found))
         ∙ ap (λ (n : ℕ). done (codeText l (w .day) (w .second) n)) k
         ∙ ap done (code-again l s (w .day) (w .second) p r (w .dated) (w .clocked))
 
@@ -161,7 +133,7 @@ module _ (t : Table) where
           let p = put l r code e in
           let u = p .utc in
           let f = partOf (l .digits) (r .ticks) in
-          let w = utc-read (r .sec) u (p .covered) in
+          let w = reading-back t g (r .sec) u (p .covered) in
           let c = codeText l (u .day) (u .second) f in
           let (a, b) = code-shaped l (u .day) (u .second) f (p .few) in
           let k = part-in (l .digits) (r .ticks) (p .few) (good-within (2 ^ 41) r (lit< tt) (p .valid) .below) in

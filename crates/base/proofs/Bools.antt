@@ -1,6 +1,6 @@
 -- Tests and choices whose outcome is known.
 use mathlib.Core.Path.{_≡_, refl, sym, ap}
-use mathlib.Core.Bool.{Bool, true, false, cond, _&&_, _||_, false≢true}
+use mathlib.Core.Bool.{Bool, true, false, cond, _&&_, false≢true}
 
 -- a test that fails does not hold
 pub never-both : {X : Type 0} {b : Bool} → b ≡ true → b ≡ false → X
@@ -29,6 +29,14 @@ and-no b e = ap (λ (x : Bool). x && b) e
 pub and-false : (a b : Bool) → b ≡ false → a && b ≡ false
 and-false true b e = e
 and-false false b e = refl
+
+pub and-one : (a : Bool) → a ≡ a && true
+and-one true = refl
+and-one false = refl
+
+pub and-assoc : (a b c : Bool) → a && b && c ≡ a && (b && c)
+and-assoc true b c = refl
+and-assoc false b c = refl
 
 -- a choice whose test is known
 pub cond-yes : {A : Type 0} {b : Bool} (x y : A) → b ≡ true → cond b x y ≡ x

@@ -12,7 +12,7 @@ use mir.Syntax.{Width}
 use mir.Val.{SFits, Fits, toZ, ofZ, bits, hbits}
 use mir.ValLaws.{toZ-ofZ}
 use borrow.Author.Tests.{lt-ltb, le-ltb, le-leb, lt-leb, ltb-true, ltb-false, leb-true, leb-false}
-use Rattle.base.specs.Parts.{plus, minus, within, at, floor, rest}
+use Rattle.base.specs.Parts.{plus, minus, within, at, loweredBy, floor, rest}
 use Rattle.base.proofs.Bools.{and-left, and-right, and-false, by-two}
 use Rattle.base.specs.Seats.{seatOf}
 use Rattle.base.specs.declared.Seat.the-variants.{In, Out}
@@ -36,6 +36,13 @@ by-test false a b f g = let h : b ≤ a = g tt in omega arith
 
 pub less : (a b : ℕ) → plus (subℕ a b) + b ≡ minus (subℕ a b) + a
 less a b = by-test (ltb a b) a b (ltb→lt a b) (nltb→le a b)
+
+-- n stands for what it is lowered to, and for nothing else
+pub lower-is : (B n : ℕ) → at B n (loweredBy B n)
+lower-is B n = omega (arith, less n B)
+
+pub lower-at : (B n : ℕ) (z : ℤ) → at B n z → loweredBy B n ≡ z
+lower-at B n z e = same (loweredBy B n) z (omega (arith, less n B))
 
 pub sum : (a b : ℤ) → plus (a +ℤ b) + (minus a + minus b) ≡ minus (a +ℤ b) + (plus a + plus b)
 sum (pos a) (pos b) = omega arith

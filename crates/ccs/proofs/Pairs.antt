@@ -8,8 +8,8 @@ use native.Mathlib.Omega.{arith}
 use borrow.Author.Tests.{le-leb}
 use lib.Arith.{digits-div, digits-mod}
 use lib.Dec.{lit<}
-use lib.ListN.{length, getD, take, drop}
-use lib.Seq.{getD-drop, drop-drop}
+use lib.ListN.{length, take, drop}
+use lib.Seq.{drop-drop}
 use Rattle.base.specs.Outcome.{Outcome, done, need, andThen}
 use Rattle.base.proofs.Ladders.{never, done-is}
 use Rattle.octets.specs.Places.{allGood, bcdValue, bcdElement, bcdGood, bcdOf, bcd}
@@ -17,23 +17,11 @@ use Rattle.octets.specs.Counts.{countOf, bcdAt}
 use Rattle.octets.specs.Writes.{saysCounted}
 use Rattle.octets.specs.declared.Counted.{Counted}
 use Rattle.octets.specs.declared.Counted.the-variants.{Done, Bad, Out}
-use Rattle.octets.proofs.Places.{number-split, number-lt, bcd-rule}
+use Rattle.octets.proofs.Places.{number-split, good-split, number-lt, bcd-rule}
 use Rattle.octets.proofs.Counts.{told, read-lt, read-text}
 use Rattle.ccs.specs.Ccs.{pairs}
 
 -- ---- reading
-and-one : (a : Bool) → a ≡ a && true
-and-one true = refl
-and-one false = refl
-
-and-assoc : (a b c : Bool) → a && b && c ≡ a && (b && c)
-and-assoc true b c = refl
-and-assoc false b c = refl
-
-good-split : (ok : ℕ → Bool) (s : List ℕ) (w k : ℕ) → allGood ok s (w + k) ≡ allGood ok s w && allGood ok (drop w s) k
-good-split ok s w zero = rw add-zero (and-one (allGood ok s w))
-good-split ok s w (suc k) = rw (add-suc, good-split ok s w k, getD-drop) (and-assoc (allGood ok s w) (allGood ok (drop w s) k) (ok (getD s (w + k) 0)))
-
 says : (g : Bool) (n : ℕ) → saysCounted (cond g (Done n) Bad) ≡ need g 4 (done n)
 says true n = refl
 says false n = refl

@@ -24,12 +24,13 @@ use Rattle.leap.specs.Builtin.{builtin}
 use Rattle.leap.specs.declared.Reading.{Reading}
 use Rattle.leap.proofs.Builtin.{builtin-good}
 use Rattle.leap.proofs.Cover.{reading-low}
+use Rattle.leap.proofs.Promises.{reading-back, second-back}
 use Rattle.ccs.specs.declared.Layout.{Layout}
 use Rattle.ccs.specs.Ccs.{isLayout, width, pairs, dayAt, clockAt, ticksOf, time, timeOf, fieldBy, field, Reads, ordinalText, monthText, dateText, clockText, partOf, bytesBy, bytesOf}
 use Rattle.ccs.proofs.Pairs.{pair-told}
 use Rattle.ccs.proofs.Parts.{ticks-lt, part-lt, part-ticks, part-le, part-most}
 use Rattle.ccs.proofs.Wholes.{dayIn, clockIn, day-whole, clock-whole, day-run, clock-run, digitsOf, clock-text}
-use Rattle.ccs.proofs.Times.{reading-back, second-back, record-at}
+use Rattle.ccs.proofs.Times.{record-at}
 use Rattle.ccs.proofs.Rungs.{width-is, on, codeText, code-length, not-covered, covered}
 use Rattle.ccs.proofs.Turns.{date-written, date-read, clock-written, clock-read, Read, code-read, read-code}
 
@@ -107,7 +108,7 @@ coded t g l r code e =
     let (u, (p, f)) = then-done (readingOf t (r .sec)) _ code d in
     let (x, (q, i)) = then-done (dateText (l .ordinal) (u .day)) _ code f in
     let y = date-written (l .ordinal) (u .day) x q in
-    let k : u .second ≤ 86400 = reading-back t g (r .sec) u p .1 in
+    let k : u .second ≤ 86400 = reading-back t g (r .sec) u p .low in
     let part = bcd w (partOf w (r .ticks)) in
     record {
       valid = a;
@@ -205,7 +206,7 @@ module _ (l : Layout) (r : Time) (code : List ℕ) (e : bytesOf l r ≡ done cod
       let (k, f) = clock-written (c .utc .second) (c .second) in
       reads-as builtin s at l (c .date) (digitsOf (c .utc .second)) part (c .utc .day) (c .utc .second) (r .sec) (c .few)
       (code-read s t at w (c .date) (digitsOf (c .utc .second)) part (c .few) (c .small) k (part-lt w (c .few) (r .ticks) (record-ticks r (c .valid))) h (d ∙ ap (λ (z : List ℕ). z ++ t) (c .text)))
-      (c .dated) f (reading-back builtin builtin-good (r .sec) (c .utc) (c .read) .0)
+      (c .dated) f (reading-back builtin builtin-good (r .sec) (c .utc) (c .read) .back)
 
   -- a written code, wherever it stands, reads as one time: the latest that the layout has a code for and that is not after the source
   pub written-reads : (m : Time) × (Latest (Reads l) r m) × ((s t : List ℕ) (at : ℕ) → at ≤ length s → drop at s ≡ code ++ t → field s at l ≡ done m)

@@ -5,8 +5,7 @@ use mathlib.Core.List.{List, _++_}
 use Prim.Native.Nat.{ℕ, _+_, _-_, _^_, _<_, _≤_}
 use native.Mathlib.Nat.{one-le-pow}
 use native.Mathlib.Omega.{arith}
-use borrow.Author.Tests.{leb-true}
-use lib.Dec.{leb, lit<}
+use lib.Dec.{lit<}
 use lib.IntN.{ℤ, pos, natAbs, _+ℤ_, _-ℤ_}
 use lib.ListN.{length, length-append}
 use Rattle.base.specs.Parts.{plus, minus, at}
@@ -14,7 +13,7 @@ use Rattle.base.specs.declared.Seat.the-variants.{In, Out}
 use Rattle.base.specs.declared.Refusal.the-variants.{Room}
 use Rattle.base.specs.Outcome.{done, refused}
 use Rattle.base.proofs.Bools.{cond-yes, cond-no}
-use Rattle.base.proofs.Ladders.{need-yes, need-no, need-done}
+use Rattle.base.proofs.Ladders.{need-yes, need-no}
 use Rattle.base.proofs.Signed.{same, sum, difference, apart, abs-is, within-low, within-high, within-yes, within-under, within-over}
 use Rattle.scale.specs.Time.{Time, isRecord}
 use Rattle.octets.specs.Places.{octetOf, octets}
@@ -24,10 +23,9 @@ use Rattle.octets.specs.declared.Written.the-variants.{Done, Refused}
 use Rattle.octets.proofs.Places.{length-places}
 use Rattle.octets.proofs.Pastes.{length-pasted, then, stored}
 use Rattle.octets.proofs.Writes.{refuses, room-in, room-out, fills}
-use Rattle.leap.specs.Table.{Table, good}
-use Rattle.leap.specs.Utc.{utcOfSecond, secondOfUtc}
+use Rattle.leap.specs.Table.{Table}
+use Rattle.leap.specs.Utc.{utcOfSecond}
 use Rattle.leap.specs.declared.Utc.{Utc}
-use Rattle.leap.proofs.Promises.{utc-then-second}
 use Rattle.cds.specs.Cds.{isLayout, held, laid, coded, bytesOn, bytesBy}
 use Rattle.cds.specs.Inner.{seatIn}
 use Rattle.cds.specs.declared.Layout.{Layout}
@@ -159,8 +157,3 @@ module _ (t : Table) (l : Layout) (r : Time) where
       pub bytes-on : (u : Utc) → utcOfSecond t (r .sec) ≡ done u → bytesBy t l r ≡ bytesOn l u (r .ticks)
       unfolding bytesBy
       bytes-on u h = need-yes 7 _ v ∙ need-yes 3 _ e ∙ rw h
-
--- a reading's second of day
-pub second-low : (t : Table) → good t ≡ true → (z : ℤ) (u : Utc) → utcOfSecond t z ≡ done u → u .second ≤ 86400
-unfolding secondOfUtc
-second-low t g z u e = leb-true _ _ (need-done (leb (u .second) 86400) 4 _ z (utc-then-second t g z u e) .0)

@@ -23,12 +23,12 @@ use Rattle.octets.proofs.Counts.{read-text, read-back}
 use Rattle.leap.specs.Table.{Table, good}
 use Rattle.leap.specs.Utc.{utcOfSecond, secondOfUtc}
 use Rattle.leap.specs.declared.Utc.{Utc}
-use Rattle.leap.proofs.Promises.{utc-then-second, second-then-utc}
+use Rattle.leap.proofs.Promises.{utc-then-second, utc-low, second-then-utc}
 use Rattle.cds.specs.Cds.{isLayout, width, parts, perMillisecond, fraction, remainder, timed, fieldBy, held, laid, coded, bytesOn, bytesBy}
 use Rattle.cds.specs.declared.Layout.{Layout}
 use Rattle.cds.proofs.Laws.{layout-good, width-is, count-told, count-lt, timed-is, field-is}
 use Rattle.cds.proofs.Ticks.{fraction-back, remainder-lt}
-use Rattle.cds.proofs.Stores.{held-so, held-is, on-in, bytes-on, second-low}
+use Rattle.cds.proofs.Stores.{held-so, held-is, on-in, bytes-on}
 
 -- ---- what a reading tells
 counted-done : (c : Counted) (n : ℕ) → saysCounted c ≡ done n → c ≡ Done n
@@ -157,7 +157,7 @@ module _ (t : Table) (g : good t ≡ true) where
   given-named l r code w =
       let u = w .utc in
       let k = record-ticks r (w .valid) in
-      let s = second-low t g (r .sec) u (w .reading) in
+      let s = utc-low t g (r .sec) u (w .reading) in
       let (e, h) = held-is l (u .day) (w .inside) in
       let n : milliOf u (r .ticks) / 1000 ≡ u .second = omega (arith, k, s) in
       record {

@@ -1,12 +1,12 @@
 -- A counter with a period (document 01, "Shortened tags": "It names epoch + T + k × 256^c seconds for every whole k of 0 or more"), over seconds raised by 2^41.
 use mathlib.Core.Bool.{Bool, _&&_}
-use mathlib.Core.List.{List, map}
-use Prim.Native.Nat.{ℕ, _+_, _-_, _*_, _/_, _%_, _^_}
+use mathlib.Core.List.{map}
+use Prim.Native.Nat.{ℕ, _+_, _-_, _/_, _%_, _^_}
 use lib.IntN.{ℤ}
 use lib.Dec.{leb, eqb}
 use Rattle.base.specs.Outcome.{Outcome, done, need}
+use Rattle.base.specs.Parts.{loweredBy}
 use Rattle.window.specs.Window.{Named, namedIn}
-use Rattle.window.specs.Seconds.{loweredBy}
 
 -- base + k × period for every k from 0
 unfoldable pub names : ℕ → ℕ → ℕ → Bool

@@ -6,8 +6,8 @@ ghost use mathlib.Core.Path.{_≡_};
 ghost use mathlib.Core.List.{map};
 ghost use Prim.Native.Nat.{_+_, _*_, _^_, _≤_, _<_};
 ghost use Rattle.base.specs.Outcome.{done};
+ghost use Rattle.base.specs.Parts.{loweredBy};
 ghost use Rattle.window.specs.Window.{namedIn, Lists};
-ghost use Rattle.window.specs.Seconds.{loweredBy};
 ghost use Rattle.counter.specs.Counter.{names, countBelow, inReach, listOf};
 
 // Lists base + k * period, for every k from 0, from `from` on and before `to`.

@@ -10,7 +10,7 @@ use Rattle.calendar.specs.Gregorian.{kind, yearStart, yearsTo, row, monthLength
 use Rattle.leap.specs.Table.{offset, start, dayLength, covers, secondAt, dayHolding, coversSecond, readingAt}
 use Rattle.leap.specs.Builtin.{builtin}
 use Rattle.leap.specs.Utc.{raisedBy, readingOf, secondOf, utcOfSecond, secondOfUtc}
-use Rattle.window.specs.Seconds.{loweredBy, firstSecond}
+use Rattle.window.specs.Seconds.{firstSecond}
 use Rattle.window.specs.Window.{listed, filled, namedIn, filter, consIf, range, up}
 use Rattle.counter.specs.Counter.{names}
 use Rattle.cuc.specs.Cuc as U
@@ -36,5 +36,5 @@ unfolding table
     C.width C.dayAt C.clockAt C.timeOf C.fieldBy C.dateText C.clockText C.bytesBy
     shapes shaped A.layoutOf A.dayAt A.clockAt A.fieldsOf A.timeOf A.textBy A.dayText A.clockText A.codeText A.bytesBy
     P.known laid cucLaid cdsLaid ccsLaid scanIn scanAt scanOf writeOf
-    listed filled loweredBy firstSecond names namedIn filter consIf range up startAt momentsIn isCuc tagWith tagIn tagAt tagOf listPeriodic listCuc
+    listed filled firstSecond names namedIn filter consIf range up startAt momentsIn isCuc tagWith tagIn tagAt tagOf listPeriodic listCuc
 known-times = refl

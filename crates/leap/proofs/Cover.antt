@@ -7,7 +7,7 @@ use native.Mathlib.Omega.{arith}
 use lib.Dec.{leb, ltb}
 use lib.IntN.{ℤ, pos}
 use borrow.Author.Tests.{leb-true, ltb-true}
-use Rattle.base.specs.Parts.{within, at}
+use Rattle.base.specs.Parts.{within, at, loweredBy}
 use Rattle.base.specs.Seats.{seatOf}
 use Rattle.base.specs.declared.Seat.the-variants.{In, Out}
 use Rattle.base.specs.Outcome.{Outcome, done, refused, andThen, given}
@@ -18,7 +18,7 @@ use Rattle.leap.specs.declared.Row.{Row}
 use Rattle.leap.specs.declared.Reading.{Reading}
 use Rattle.leap.specs.Table.{offFrom, offset, start, dayLength, dayHolding, covers, coversSecond, secondAt, reading, readingAt}
 use Rattle.leap.specs.Builtin.{builtin}
-use Rattle.leap.specs.Utc.{dayRaise, secondRaise, raisedBy, loweredBy, readingOf, secondOf}
+use Rattle.leap.specs.Utc.{dayRaise, secondRaise, raisedBy, readingOf, secondOf}
 use Rattle.leap.proofs.Days.{holding-le}
 use Rattle.leap.proofs.Builtin.{builtin-good, covered-days, covered-seconds, second-in, first-second, past-second, passes}
 use Rattle.leap.proofs.Outcomes.{reading-done, reading-uncovered, second-uncovered}

@@ -8,17 +8,18 @@ use lib.Dec.{leb, ltb}
 use lib.IntN.{ℤ, pos, _+ℤ_, _*ℤ_}
 use borrow.Author.Tests.{leb-true, ltb-true, ltb-false, le-leb, lt-ltb}
 use Rattle.base.specs.Outcome.{Outcome, done, andThen, given}
+use Rattle.base.specs.Parts.{loweredBy}
 use Rattle.base.proofs.Bools.{and-true, and-yes}
 use Rattle.base.proofs.Ladders.{need-yes, need-done, then-done, given-done, done-is}
-use Rattle.base.proofs.Signed.{same, sum, line}
+use Rattle.base.proofs.Signed.{same, sum, line, lower-is, lower-at}
 use Rattle.base.proofs.Steps.{below}
 use Rattle.leap.specs.declared.Reading.{Reading}
 use Rattle.leap.specs.declared.Utc.{Utc}
 use Rattle.leap.specs.Table.{Table, good, offset, start, dayLength, dayHolding, covers, coversSecond, secondAt, reading, readingAt}
-use Rattle.leap.specs.Utc.{dayRaise, offsetRaise, secondRaise, raisedBy, loweredBy, readingOf, secondOf, utc, utcOfSecond, secondOfUtc}
+use Rattle.leap.specs.Utc.{dayRaise, offsetRaise, secondRaise, raisedBy, readingOf, secondOf, utc, utcOfSecond, secondOfUtc}
 use Rattle.leap.proofs.Days.{start-next, length-range, start-mono, start-up, held, holding-is, holding-le}
 use Rattle.leap.proofs.Outcomes.{second-done, reading-done}
-use Rattle.leap.proofs.Raised.{raise-at, raise-is, raise-lowered, lower-at, lower-is}
+use Rattle.leap.proofs.Raised.{raise-at, raise-is, raise-lowered}
 
 module _ (t : Table) (g : good t ≡ true) where
   -- what an answered second says
@@ -100,7 +101,32 @@ module _ (t : Table) (g : good t ≡ true) where
           let q : r .day ≡ r' .day = omega (arith, le, ltb-false (r .day) (r' .day) p) in
           inr (q, omega (arith, w .exact, w' .exact, ap (start t) q))
 
-  -- ---- the same of signed numbers
+  -- ---- the same of signed seconds
+  -- what the reading of a second says
+  pub record Read (z : ℤ) (u : Reading) : Type 0 where
+    pub low : u .second ≤ 86400
+    pub covered : u .day ≤ t .last
+    pub back : secondOf t (u .day) (u .second) ≡ done z
+
+  pub reading-back : (z : ℤ) (u : Reading) → readingOf t z ≡ done u → Read z u
+  unfolding secondOf readingOf covers
+  reading-back z u e =
+      let (s, (a, b)) = then-done (raisedBy secondRaise z) (readingAt t) u e in
+      let p = reading-then-second s u b .0 in
+      let w = second-is (u .day) (u .second) s p in
+      record {
+        low = w .low;
+        covered = leb-true (u .day) (t .last) (and-true (leb (t .first .day) (u .day)) (leb (u .day) (t .last)) (w .covered) .1);
+        back = ap (given (loweredBy secondRaise)) p ∙ ap done (lower-at secondRaise s z (raise-is secondRaise s z a));
+      }
+
+  pub second-back : (d x : ℕ) (z : ℤ) → secondOf t d x ≡ done z → readingOf t z ≡ done (reading t d x)
+  unfolding secondOf readingOf
+  second-back d x z e =
+      let (s, (p, i)) = given-done (loweredBy secondRaise) (secondAt t d x) z e in
+      ap (λ (y : Outcome ℕ). andThen y (readingAt t)) (raise-lowered secondRaise s z i) ∙ second-then-reading d x s p
+
+  -- ---- and of signed days
   -- "TAI second = day × 86,400 + second of day + offset of that day"
   pub tai-second : (z : ℤ) (u : Utc) → utcOfSecond t z ≡ done u → z ≡ u .day *ℤ pos 86400 +ℤ pos (u .second) +ℤ u .offset
   unfolding utcOfSecond readingOf start
@@ -117,29 +143,22 @@ module _ (t : Table) (g : good t ≡ true) where
 
   -- reading and its inverse are inverse both ways
   pub utc-then-second : (z : ℤ) (u : Utc) → utcOfSecond t z ≡ done u → secondOfUtc t (u .day) (u .second) ≡ done z
-  unfolding utcOfSecond readingOf secondOfUtc secondOf
+  unfolding utcOfSecond secondOfUtc
   utc-then-second z u e =
-      let (r, (f, i)) = given-done utc (andThen (raisedBy secondRaise z) (readingAt t)) u e in
-      let (s, (a, b)) = then-done (raisedBy secondRaise z) (readingAt t) r f in
-      let (p, q) = reading-then-second s r b in
-      let w = second-is (r .day) (r .second) s p in
+      let (r, (f, i)) = given-done utc (readingOf t z) u e in
+      let w = reading-back z r f in
       rw (← i)
       (need-yes 4 _ (le-leb (r .second) 86400 (w .low))
-      ∙ ap (λ (x : Outcome ℕ). andThen x (λ n. given (loweredBy secondRaise) (secondAt t n (r .second)))) (raise-at dayRaise (r .day) (loweredBy dayRaise (r .day)) (lower-is dayRaise (r .day)))
-      ∙ ap (given (loweredBy secondRaise)) p
-      ∙ ap done (lower-at secondRaise s z (raise-is secondRaise s z a)))
+      ∙ ap (λ (x : Outcome ℕ). andThen x (λ n. secondOf t n (r .second))) (raise-at dayRaise (r .day) (loweredBy dayRaise (r .day)) (lower-is dayRaise (r .day)))
+      ∙ w .back)
+
+  pub utc-low : (z : ℤ) (u : Utc) → utcOfSecond t z ≡ done u → u .second ≤ 86400
+  unfolding utcOfSecond
+  utc-low z u e = let (r, (f, i)) = given-done utc (readingOf t z) u e in rw (← i) (reading-back z r f .low)
 
   pub second-then-utc : (d : ℤ) (x : ℕ) (z : ℤ) → secondOfUtc t d x ≡ done z → (u : Utc) × ((utcOfSecond t z ≡ done u) × (u .day ≡ d) × (u .second ≡ x))
-  unfolding utcOfSecond readingOf secondOfUtc secondOf
+  unfolding utcOfSecond secondOfUtc
   second-then-utc d x z e =
       let (l, f) = need-done (leb x 86400) 4 _ z e in
-      let (n, (a, b)) = then-done (raisedBy dayRaise d) (λ n. given (loweredBy secondRaise) (secondAt t n x)) z f in
-      let (s, (p, i)) = given-done (loweredBy secondRaise) (secondAt t n x) z b in
-      let q : raisedBy secondRaise z ≡ done s = raise-lowered secondRaise s z i in (
-        utc (reading t n x),
-        (
-          ap (λ (y : Outcome ℕ). given utc (andThen y (readingAt t))) q ∙ ap (given utc) (second-then-reading n x s p),
-          lower-at dayRaise n d (raise-is dayRaise n d a),
-          refl,
-        ),
-      )
+      let (n, (a, b)) = then-done (raisedBy dayRaise d) (λ n. secondOf t n x) z f in
+      (utc (reading t n x), (ap (given utc) (second-back n x z b), lower-at dayRaise n d (raise-is dayRaise n d a), refl))

@@ -1,15 +1,15 @@
 -- Signed numbers raised and lowered, and what the built-in cover's ends say of them.
-use Prim.Native.Nat.{ℕ, _+_}
+use Prim.Native.Nat.{ℕ}
 use mathlib.Core.Path.{_≡_, refl, ap, _∙_}
 use mathlib.Core.Bool.{Bool, true, false}
 use native.Mathlib.Omega.{arith}
-use lib.IntN.{ℤ, pos, negℤ, natAbs, subℕ, _+ℤ_}
+use lib.IntN.{ℤ, pos, negℤ, natAbs, _+ℤ_}
 use lib.Signed.{leZ}
-use Rattle.base.specs.Parts.{plus, minus, at}
+use Rattle.base.specs.Parts.{plus, minus, at, loweredBy}
 use Rattle.base.specs.Outcome.{Outcome, done, refused, andThen}
 use Rattle.base.proofs.Ladders.{need-yes, need-done, done-is}
-use Rattle.base.proofs.Signed.{same, less, sum, apart, abs-is, neg-plus, neg-minus, le-so, le-yes}
-use Rattle.leap.specs.Utc.{raisedBy, loweredBy}
+use Rattle.base.proofs.Signed.{lower-is, sum, apart, abs-is, neg-plus, neg-minus, le-so, le-yes}
+use Rattle.leap.specs.Utc.{raisedBy}
 
 module _ (B : ℕ) where
   abs-at : (n : ℕ) (z : ℤ) → at B n z → natAbs (z +ℤ pos B) ≡ n
@@ -20,14 +20,8 @@ module _ (B : ℕ) where
   raise-at n z e =
       need-yes 5 _ (le-so (negℤ (pos B)) z (omega (arith, neg-plus (pos B), neg-minus (pos B)))) ∙ ap done (abs-at n z e)
 
-  pub lower-at : (n : ℕ) (z : ℤ) → at B n z → loweredBy B n ≡ z
-  lower-at n z e = same (subℕ n B) z (omega (arith, less n B))
-
-  pub lower-is : (n : ℕ) → at B n (loweredBy B n)
-  lower-is n = omega (arith, less n B)
-
   pub raise-lowered : (n : ℕ) (z : ℤ) → loweredBy B n ≡ z → raisedBy B z ≡ done n
-  raise-lowered n z e = raise-at n z (omega (arith, ap plus e, ap minus e, lower-is n))
+  raise-lowered n z e = raise-at n z (omega (arith, ap plus e, ap minus e, lower-is B n))
 
   -- and back: what was raised stands for it
   pub raise-is : (n : ℕ) (z : ℤ) → raisedBy B z ≡ done n → at B n z

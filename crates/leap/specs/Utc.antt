@@ -1,9 +1,10 @@
 -- The same of signed numbers, as callers have them: TAI seconds and days counted from 1958-01-01, and TAI minus UTC itself.
 use Prim.Native.Nat.{ℕ, _+_, _*_}
 use lib.Dec.{leb}
-use lib.IntN.{ℤ, pos, negℤ, natAbs, subℕ, _+ℤ_}
+use lib.IntN.{ℤ, pos, negℤ, natAbs, _+ℤ_}
 use lib.Signed.{leZ}
 use Rattle.base.specs.Outcome.{Outcome, done, need, andThen, given}
+use Rattle.base.specs.Parts.{loweredBy}
 use Rattle.leap.specs.Table.{Table, secondAt, readingAt}
 use Rattle.leap.specs.declared.Reading.{Reading}
 use Rattle.leap.specs.declared.Utc.{Utc}
@@ -21,10 +22,6 @@ secondRaise = 714779 * 86400 + 64
 -- z raised by B; what stays negative lies before every table: 5
 unfoldable pub raisedBy : ℕ → ℤ → Outcome ℕ
 raisedBy B z = need (leZ (negℤ (pos B)) z) 5 (done (natAbs (z +ℤ pos B)))
-
--- n lowered by B: n - B
-abbrev pub loweredBy : ℕ → ℕ → ℤ
-loweredBy B n = subℕ n B
 
 -- the reading of a TAI second, and the TAI second of a day's second
 unfoldable pub readingOf : Table → ℤ → Outcome Reading

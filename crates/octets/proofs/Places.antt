@@ -1,6 +1,6 @@
 -- The laws of numbers in places, each once over the width, the base and the kind of element.
 use mathlib.Core.Path.{_≡_, refl, sym, ap, _∙_}
-use mathlib.Core.Bool.{Bool, true, false}
+use mathlib.Core.Bool.{Bool, true, false, _&&_}
 use mathlib.Core.List.{List, [], _∷_, _++_}
 use Prim.Native.Nat.{ℕ, zero, suc, _+_, _*_, _/_, _%_, _^_, _<_, _≤_}
 use native.Mathlib.Nat.{not-suc-le-zero, add-zero, add-suc, mul-one, mul-assoc, add-mul, add-assoc, pow-zero, pow-suc, one-le-pow, mod-lt, mod-one, mod-eq-of-lt}
@@ -10,7 +10,7 @@ use lib.Arith.{digits-lt, digits-div, digits-mod, mod-mul}
 use lib.Dec.{ltb, leb, lit<}
 use lib.ListN.{length, getD, take, drop, length-append, take-append-drop, List·getD-append}
 use lib.Seq.{take-suc, getD-at, getD-drop, length-take-le}
-use Rattle.base.proofs.Bools.{and-true, and-yes, never-both}
+use Rattle.base.proofs.Bools.{and-true, and-yes, and-one, and-assoc, never-both}
 use Rattle.octets.specs.Places.{number, places, allGood, octetValue, octetOf, octetGood, bcdValue, bcdElement, bcdGood, digitValue, digitOf, digitGood}
 
 -- ---- any elements
@@ -38,6 +38,11 @@ module _ (ok : ℕ → Bool) where
   pub good-append : (s t : List ℕ) (w : ℕ) → w ≤ length s → allGood ok (s ++ t) w ≡ allGood ok s w
   good-append s t zero l = refl
   good-append s t (suc w) l = rw (good-append s t w (omega arith), List·getD-append s t 0 w l)
+
+  -- a run in two parts
+  pub good-split : (s : List ℕ) (w k : ℕ) → allGood ok s (w + k) ≡ allGood ok s w && allGood ok (drop w s) k
+  good-split s w zero = rw add-zero (and-one (allGood ok s w))
+  good-split s w (suc k) = rw (add-suc, good-split s w k, getD-drop) (and-assoc (allGood ok s w) (allGood ok (drop w s) k) (ok (getD s (w + k) 0)))
 
   pub all-good : (s : List ℕ) (w : ℕ) → ((i : ℕ) → i < w → ok (getD s i 0) ≡ true) → allGood ok s w ≡ true
   all-good s zero f = refl

@@ -2,7 +2,7 @@
 use mathlib.Core.Path.{_≡_, refl, sym, subst}
 use mathlib.Core.List.{List, [], _∷_}
 use mathlib.Core.Logic.{_⊎_, inl, inr, ⊎-elim, _↔_}
-use Prim.Native.Nat.{ℕ, zero, suc, _-_, _<_, min}
+use Prim.Native.Nat.{ℕ, zero, suc, _<_, min}
 use native.Mathlib.Omega.{arith}
 use borrow.Author.Tests.{ltb-true, lt-ltb}
 use lib.IntN.{ℤ}
@@ -14,11 +14,11 @@ use Rattle.base.proofs.Signed.{lt-yes}
 use Rattle.scale.specs.Time.{Time}
 use Rattle.window.specs.Among.{Among, here, there, Ascending, first}
 use Rattle.window.specs.Window.{Listed, Named, listed, filled, leaves}
-use Rattle.tags.specs.Records.{IsListed}
+use Rattle.tags.specs.Records.{IsListed, Sooner}
 use Rattle.tags.proofs.CucPromises as C
 use Rattle.tags.proofs.AsciiPromises as A
 use Rattle.promises.proofs.Counters.{counted-names}
-use Rattle.promises.specs.Promises.{Shortened, counter, letters, listBy, Sooner, Wanted, Lists}
+use Rattle.promises.specs.Promises.{Shortened, counter, letters, listBy, Wanted, Lists}
 
 -- ---- a list cut in two
 module _ {B : Type 0} where

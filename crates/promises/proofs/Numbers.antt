@@ -11,7 +11,7 @@ use lib.IntN.{ℤ, pos, negsuc, negℤ, _+ℤ_}
 use lib.ListN.{length, getD, take, drop}
 use lib.Signed.{leZ}
 use Rattle.base.specs.Outcome.{Outcome, done, refused, need, andThen, given, status}
-use Rattle.base.specs.Parts.{within}
+use Rattle.base.specs.Parts.{within, loweredBy}
 use Rattle.base.proofs.Bools.{and-true}
 use Rattle.base.proofs.Ladders.{never}
 use Rattle.scale.specs.Time.{Time, worth, ofTicks, isRecord, isSpan, earlier}
@@ -130,7 +130,7 @@ second-at d x = by-need (leb x 86400) 4 refl (by-need (covers builtin d) 5 refl 
 
 second : (d x : ℕ) → Numbered (L.secondOf builtin d x)
 unfolding L.secondOf
-second d x = by-given (L.loweredBy L.secondRaise) (second-at d x)
+second d x = by-given (loweredBy L.secondRaise) (second-at d x)
 
 utc : (z : ℤ) → Numbered (L.utcOfSecond builtin z)
 unfolding L.utcOfSecond

@@ -58,10 +58,6 @@ pub step : {A : Type 0} (b : Bool) (n : ℕ) (x : Outcome A) (m : ℕ) → (b �
 step true n x m f = f refl
 step false n x m f = refl
 
-pub and-one : (b : Bool) → b ≡ b && true
-and-one true = refl
-and-one false = refl
-
 -- two tests with one number are one
 pub need-both : {A : Type 0} (a b : Bool) (n : ℕ) (x : Outcome A) → need a n (need b n x) ≡ need (a && b) n x
 need-both true b n x = refl

@@ -9,7 +9,7 @@ use lib.IntN.{ℤ}
 use lib.ListN.{length, getD}
 use borrow.Author.Tests.{leb-true}
 use Rattle.base.specs.Outcome.{Outcome, done, refused, need, andThen, given, status}
-use Rattle.base.proofs.Bools.{never-both}
+use Rattle.base.proofs.Bools.{never-both, and-one}
 use Rattle.base.proofs.Ladders.{need-yes, need-no}
 use Rattle.scale.specs.Time.{Time, isRecord}
 use Rattle.leap.specs.Builtin.{builtin}
@@ -38,7 +38,7 @@ use Rattle.codes.proofs.Fields.{bytes-width}
 use Rattle.promises.specs.Rungs.{firstBroken, allHold}
 use Rattle.promises.specs.RungsCalendar.{coveredSecond}
 use Rattle.promises.specs.RungsBinary.{isEpochDay, octetRungs, cucOf, cdsOf, ccsOf, layoutOf, octetsOf, fieldRungs, readBinaryRungs, sourceGood, targetGood, codeOctets, targetRungs, writeBinaryRungs}
-use Rattle.promises.proofs.Rungs.{and-one, climb, climbs-up, step, after, need-both, status-given}
+use Rattle.promises.proofs.Rungs.{climb, climbs-up, step, after, need-both, status-given}
 use Rattle.promises.proofs.RungsCalendar.{readingHere, reading-climbs}
 use Rattle.promises.proofs.RungsAscii.{room-rung}
 use Rattle.promises.proofs.RungsFields.{field-rungs}

@@ -9,7 +9,7 @@ use lib.IntN.{ℤ, pos, negsuc, negℤ, natAbs, _+ℤ_}
 use lib.Signed.{leZ}
 use borrow.Author.Tests.{leb-true, ltb-true, lt-ltb}
 use Rattle.base.specs.Outcome.{Outcome, done, need, andThen, status}
-use Rattle.base.specs.Parts.{within}
+use Rattle.base.specs.Parts.{within, loweredBy}
 use Rattle.base.proofs.Bools.{and-true, and-yes}
 use Rattle.base.proofs.Ladders.{need-yes}
 use Rattle.base.proofs.Signed.{sum, apart, abs-is, neg-plus, neg-minus, le-yes, le-so, within-low, within-high, within-yes}
@@ -17,7 +17,7 @@ use Rattle.calendar.specs.Gregorian.{isDate, isOrdinal, indexOfDate, indexOfOrd
 use Rattle.calendar.proofs.Promises.{ordinal-at-done, date-at-done}
 use Rattle.leap.specs.Table.{covers, coversSecond, dayLength, dayHolding, start, reading, readingAt, secondAt}
 use Rattle.leap.specs.Builtin.{builtin}
-use Rattle.leap.specs.Utc.{dayRaise, secondRaise, raisedBy, loweredBy, readingOf, secondOf, utc, utcOfSecond, secondOfUtc}
+use Rattle.leap.specs.Utc.{dayRaise, secondRaise, raisedBy, readingOf, secondOf, utc, utcOfSecond, secondOfUtc}
 use Rattle.leap.specs.declared.Reading.{Reading}
 use Rattle.leap.proofs.Builtin.{covered-days, covered-seconds, day-in, second-in}
 use Rattle.leap.proofs.Raised.{raise-lowered}

@@ -2,8 +2,7 @@
 use mathlib.Core.Path.{_≡_, refl, sym, ap, _∙_}
 use mathlib.Core.Bool.{Bool, true, false, cond, _&&_}
 use mathlib.Core.List.{List, [], _∷_}
-use Prim.Native.Nat.{ℕ, zero, suc, _+_, _-_, _/_, _≤_, _<_}
-use native.Mathlib.Nat.{add-zero, add-suc}
+use Prim.Native.Nat.{ℕ, suc, _+_, _/_, _≤_, _<_}
 use native.Mathlib.Omega.{arith}
 use lib.Dec.{leb, ltb, eqb}
 use lib.IntN.{ℤ, pos, _+ℤ_}
@@ -17,7 +16,7 @@ use Rattle.scale.specs.Time.{Time}
 use Rattle.octets.specs.Places.{number, allGood, be, octetValue, octetGood, bcdValue, bcdGood}
 use Rattle.octets.specs.Counts.{countOf, countAt}
 use Rattle.octets.specs.Writes.{saysCounted}
-use Rattle.octets.proofs.Places.{all-good}
+use Rattle.octets.proofs.Places.{good-split, all-good}
 use Rattle.octets.specs.declared.Counted.the-variants.{Done, Bad, Out}
 use Rattle.calendar.specs.Gregorian.{indexOfDate, indexOfOrdinal}
 use Rattle.clock.specs.Clock.{clockOf}
@@ -39,19 +38,11 @@ use Rattle.codes.specs.declared.pfield.Layout.the-variants.{Cuc, Cds, Ccs}
 use Rattle.codes.proofs.Layouts.{isLayoutOf}
 use Rattle.promises.specs.RungsBinary.{countIn, pairsIn, milliIn, partIn, partGood, dateGood, indexIn, clockGood, secondIn, fieldGood, fieldRungs}
 use Rattle.promises.specs.Rungs.{rung, firstBroken}
-use Rattle.promises.proofs.Rungs.{and-one, climb, step, need-both, then-need, both-ways, status-given, given-climb}
+use Rattle.promises.proofs.Rungs.{climb, step, need-both, then-need, both-ways, status-given, given-climb}
 use Rattle.promises.proofs.RungsCalendar.{second-of-utc-rungs, index-second}
 
 -- ---- runs of elements
 -- two neighbouring runs are one
-and-assoc : (a b c : Bool) → a && b && c ≡ a && (b && c)
-and-assoc true b c = refl
-and-assoc false b c = refl
-
-good-split : (ok : ℕ → Bool) (s : List ℕ) (w k : ℕ) → allGood ok s (w + k) ≡ allGood ok s w && allGood ok (drop w s) k
-good-split ok s w zero = rw add-zero (and-one (allGood ok s w))
-good-split ok s w (suc k) = rw (add-suc, good-split ok s w k, getD-drop) (and-assoc (allGood ok s w) (allGood ok (drop w s) k) (ok (getD s (w + k) 0)))
-
 good-from : (ok : ℕ → Bool) (s : List ℕ) (at w k : ℕ) → allGood ok (drop at s) (w + k) ≡ allGood ok (drop at s) w && allGood ok (drop (at + w) s) k
 good-from ok s at w k =
     good-split ok (drop at s) w k ∙ ap (λ (t : List ℕ). allGood ok (drop at s) w && allGood ok t k) (drop-drop w at s)

@@ -22,7 +22,6 @@ use Rattle.codes.specs.declared.Preamble.{Preamble}
 use Rattle.codes.specs.declared.Preamble.the-variants.{Front, Given}
 use Rattle.codes.specs.declared.pfield.Layout.the-variants.{Cuc}
 use Rattle.codes.proofs.Layouts.{laid-good}
-use Rattle.window.specs.Seconds.{loweredBy}
 use Rattle.seek.specs.declared.Tag.{Tag}
 use Rattle.tag.specs.Tags.{formed, goodTag, tagOf as wantOf}
 use Rattle.tag.proofs.Witness.{tag-4}
@@ -94,7 +93,7 @@ list-cuc-rungs s (Given o) e from to = tag-then s 0 (listPeriodic from to) _ (pe
 
 -- ---- ASCII tags
 cover-is : (from to : Time) → covered builtin from to ≡ inCover from to
-unfolding covered start offset builtin loweredBy
+unfolding covered start offset builtin
 cover-is from to = refl
 
 wanted-rungs : (from to : Time) (g : Tag) → status (listWanted builtin from to g) ≡ firstBroken (rung 7 (isRecord from) ∷ rung 7 (isRecord to) ∷ rung 9 (inOrder from to) ∷ rung 5 (inCover from to) ∷ [])

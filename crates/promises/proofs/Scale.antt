@@ -11,16 +11,16 @@ use lib.Dec.{lit<, lit≤}
 use lib.IntN.{ℤ, pos, _+ℤ_, _-ℤ_}
 use lib.ListN.{length, getD}
 use Rattle.base.specs.Outcome.{done, andThen, given}
-use Rattle.base.specs.Parts.{plus, minus}
+use Rattle.base.specs.Parts.{plus, minus, loweredBy}
 use Rattle.base.proofs.Ladders.{then-done, given-done}
-use Rattle.base.proofs.Signed.{same, sum, difference}
+use Rattle.base.proofs.Signed.{same, sum, difference, lower-is}
 use Rattle.scale.specs.Time.{Time, perSecond, worth, ofTicks, isRecord, differenceOf}
 use Rattle.scale.proofs.Laws.{worth-parts}
 use Rattle.scale.proofs.Promises.{difference-is}
 use Rattle.leap.specs.Table.{offset, start, dayLength, reading, readingAt}
 use Rattle.leap.specs.Builtin.{noRow, builtin}
 use Rattle.leap.specs.Inner.{rowAt, endAt}
-use Rattle.leap.specs.Utc.{dayRaise, secondRaise, raisedBy, loweredBy, readingOf, secondOf, utc, utcOfSecond}
+use Rattle.leap.specs.Utc.{dayRaise, secondRaise, raisedBy, readingOf, secondOf, utc, utcOfSecond}
 use Rattle.leap.specs.declared.Row.{Row}
 use Rattle.leap.specs.declared.Utc.{Utc}
 use Rattle.leap.proofs.Builtin.{builtin-good, later-rows, day-in, row-small, end-small}
@@ -31,12 +31,12 @@ use Rattle.ccs.proofs.Times.{record-at}
 use Rattle.ascii.specs.Ascii.{isLayout, ticksOf, partOf, time, text, codeText}
 use Rattle.ascii.specs.declared.Layout.{Layout}
 use Rattle.ascii.proofs.Texts.{bytes-by}
-use Rattle.ascii.proofs.Trips.{utc-again, written-then-read}
+use Rattle.ascii.proofs.Trips.{written-then-read}
 use Rattle.window.specs.Among.{Among, here, there}
 use Rattle.promises.specs.Promises.{second, SecondApart}
 use Rattle.leap.proofs.Days.{start-next, length-range}
-use Rattle.leap.proofs.Raised.{raise-is, lower-is}
-use Rattle.leap.proofs.Promises.{second-is, reading-then-second}
+use Rattle.leap.proofs.Raised.{raise-is}
+use Rattle.leap.proofs.Promises.{second-is, reading-then-second, second-back}
 
 -- what a reading says on the raised axis
 record On (z : ℤ) (u : Utc) : Type 0 where
@@ -130,7 +130,7 @@ module _ (l : Layout) (few : isLayout l ≡ true) (d x : ℕ) (z : ℤ) (e : sec
   text-reads =
       let k = l .digits in
       let p : partOf k 0 ≡ 0 = zero-div (perSecond / 10 ^ k) in
-      let w = bytes-by builtin l (time z 0) (λ c. done c) shown (leb-true k 12 few) (done (reading builtin d x)) (utc-again builtin builtin-good z d x e) in
+      let w = bytes-by builtin l (time z 0) (λ c. done c) shown (leb-true k 12 few) (done (reading builtin d x)) (second-back builtin builtin-good d x z e) in
       let c : text (codeText l d x (partOf k 0)) ≡ done (time z (ticksOf k (partOf k 0))) = written-then-read builtin builtin-good l (time z 0) days (codeText l d x (partOf k 0)) w .0 in
       let q : ticksOf k 0 ≡ 0 = zero-mul (perSecond / 10 ^ k) in
       rw (p, q) at c

@@ -2,7 +2,7 @@
 use mathlib.Core.Path.{_≡_, refl}
 use mathlib.Core.Bool.{Bool, true, false}
 use mathlib.Core.List.{List, [], _∷_, map}
-use Prim.Native.Nat.{ℕ, _≤_}
+use Prim.Native.Nat.{ℕ}
 use lib.Dec.{lit≤}
 use lib.IntN.{ℤ, pos, negsuc}
 use lib.ListN.{replicate}
@@ -31,7 +31,7 @@ use Rattle.codes.specs.declared.setting.Setting.{Setting}
 use Rattle.codes.specs.declared.setting.Setting.the-variants.{Binary, Ascii}
 use Rattle.codes.specs.declared.Preamble.the-variants.{Front}
 use Rattle.window.specs.Among.{Among, here}
-use Rattle.window.specs.Seconds.{loweredBy, firstSecond}
+use Rattle.window.specs.Seconds.{firstSecond}
 use Rattle.window.specs.Window.{listed, namedIn, filter, consIf, range, up}
 use Rattle.counter.specs.Counter.{names as counted}
 use Rattle.seek.specs.Naming.{dayFits, clockFits, names}
@@ -139,12 +139,12 @@ abbrev lent : ℕ → List ℤ
 lent n = replicate n (pos 9)
 
 counts : given (listed (lent 2)) (listBy (counter (16 ∷ 0 ∷ []) Front (pos 0)) (time (pos 0) 0) (time (pos 1024) 0)) ≡ done (record { ticks = 0; count = 2; more = true })
-unfolding good within known laid cucLaid cdsLaid ccsLaid scanIn scanAt scanOf writeOf roomed countOf U.isLayout U.width U.unit U.timeOf U.field U.holds U.countOf U.bytesOf K.isCuc K.tagWith K.tagIn K.tagAt K.tagOf K.listPeriodic K.listCuc startAt momentsIn firstSecond loweredBy counted namedIn filter consIf range up listed
+unfolding good within known laid cucLaid cdsLaid ccsLaid scanIn scanAt scanOf writeOf roomed countOf U.isLayout U.width U.unit U.timeOf U.field U.holds U.countOf U.bytesOf K.isCuc K.tagWith K.tagIn K.tagAt K.tagOf K.listPeriodic K.listCuc startAt momentsIn firstSecond counted namedIn filter consIf range up listed
 counts = refl
 
 -- "::60" over the five seconds around 2016-12-31T23:59:60
 sixties : given (listed (lent 2)) (listBy (P.letters (bytes "::60")) (time (pos 1861920034) 0) (time (pos 1861920039) 0)) ≡ done (record { ticks = 0; count = 1; more = false })
-unfolding good within L.utcOfSecond L.readingOf L.raisedBy L.secondOfUtc L.secondOf readingAt coversSecond dayHolding secondAt covers dayLength start offset builtin kind yearStart yearsTo row monthLength isDate isOrdinal dayIndex ordinalOn dateIn indexOfDate indexOfOrdinal indexOfDay ordinalAt calendarAs clockAs unzoned timeIn alone joined formed goodDay goodClock tagOf names dayFits clockFits AsciiTag.covered AsciiTag.listWanted AsciiTag.listAscii shapeOf days months hours minutes startAt momentsIn firstSecond loweredBy namedIn filter consIf range up listed
+unfolding good within L.utcOfSecond L.readingOf L.raisedBy L.secondOfUtc L.secondOf readingAt coversSecond dayHolding secondAt covers dayLength start offset builtin kind yearStart yearsTo row monthLength isDate isOrdinal dayIndex ordinalOn dateIn indexOfDate indexOfOrdinal indexOfDay ordinalAt calendarAs clockAs unzoned timeIn alone joined formed goodDay goodClock tagOf names dayFits clockFits AsciiTag.covered AsciiTag.listWanted AsciiTag.listAscii shapeOf days months hours minutes startAt momentsIn firstSecond namedIn filter consIf range up listed
 sixties = refl
 
 -- ---- each call ends with a result, and each is refused: among them all nine numbers
@@ -159,7 +159,7 @@ results : answers
     ∷ P.readBinary (0x1c ∷ 0x6e ∷ 0xfa ∷ 0xa5 ∷ 0x24 ∷ []) true 0 (pos 0) ∷ P.writeBinary leap true 0x1c (pos 0) room ∷ P.readAscii (bytes "2016-12-31T23:59:60") ∷ P.writeAscii leap (layout 12) room ∷ P.writeWall leap room
     ∷ P.listCuc (16 ∷ 0 ∷ []) true 0 (pos 0) (time (pos 0) 0) (time (pos 9) 0) ∷ P.listAscii (bytes "::60") leap leap ∷ [])
     ≡ replicate 15 0
-unfolding good within known laid cucLaid cdsLaid ccsLaid scanIn scanAt scanOf writeOf roomed countOf U.isLayout U.width U.unit U.timeOf U.field U.holds U.countOf U.bytesOf A.width A.layoutOf A.dayAt A.clockAt A.fieldsOf A.timeOf A.textBy A.dayText A.clockText A.codeText A.bytesBy shaped shapes L.utcOfSecond L.readingOf L.raisedBy L.secondOfUtc L.secondOf readingAt coversSecond dayHolding secondAt covers dayLength start offset builtin kind yearStart yearsTo row monthLength isDate isOrdinal dayIndex ordinalOn dateIn indexOfDate indexOfOrdinal indexOfDay ordinalAt K.isCuc K.tagWith K.tagIn K.tagAt K.tagOf K.listPeriodic K.listCuc startAt momentsIn firstSecond loweredBy counted namedIn filter consIf range up calendarAs clockAs unzoned timeIn alone joined formed goodDay goodClock tagOf names dayFits clockFits AsciiTag.covered AsciiTag.listWanted AsciiTag.listAscii shapeOf days months hours minutes
+unfolding good within known laid cucLaid cdsLaid ccsLaid scanIn scanAt scanOf writeOf roomed countOf U.isLayout U.width U.unit U.timeOf U.field U.holds U.countOf U.bytesOf A.width A.layoutOf A.dayAt A.clockAt A.fieldsOf A.timeOf A.textBy A.dayText A.clockText A.codeText A.bytesBy shaped shapes L.utcOfSecond L.readingOf L.raisedBy L.secondOfUtc L.secondOf readingAt coversSecond dayHolding secondAt covers dayLength start offset builtin kind yearStart yearsTo row monthLength isDate isOrdinal dayIndex ordinalOn dateIn indexOfDate indexOfOrdinal indexOfDay ordinalAt K.isCuc K.tagWith K.tagIn K.tagAt K.tagOf K.listPeriodic K.listCuc startAt momentsIn firstSecond counted namedIn filter consIf range up calendarAs clockAs unzoned timeIn alone joined formed goodDay goodClock tagOf names dayFits clockFits AsciiTag.covered AsciiTag.listWanted AsciiTag.listAscii shapeOf days months hours minutes
 results = refl
 
 refusals : answers
@@ -167,5 +167,5 @@ refusals : answers
     ∷ P.readBinary (0x1c ∷ 0x6e ∷ []) true 0 (pos 0) ∷ P.writeBinary leap true 0x60 (pos 0) room ∷ P.readAscii (bytes "2016-12-31T12:00:60") ∷ P.writeAscii leap (layout 13) room ∷ P.writeWall leap (7 ∷ [])
     ∷ P.listCuc (16 ∷ 0 ∷ []) true 0 (pos 0) (time (pos 9) 0) (time (pos 0) 0) ∷ P.listAscii (bytes "::60") early leap ∷ [])
     ≡ 7 ∷ 7 ∷ 4 ∷ 7 ∷ 4 ∷ 7 ∷ 5 ∷ 6 ∷ 1 ∷ 2 ∷ 4 ∷ 3 ∷ 8 ∷ 9 ∷ 5 ∷ []
-unfolding good within known laid cucLaid cdsLaid ccsLaid scanIn scanAt scanOf writeOf roomed countOf U.isLayout U.width U.unit U.timeOf U.field U.holds U.countOf U.bytesOf A.width A.layoutOf A.dayAt A.clockAt A.fieldsOf A.timeOf A.textBy A.dayText A.clockText A.codeText A.bytesBy shaped shapes L.utcOfSecond L.readingOf L.raisedBy L.secondOfUtc L.secondOf readingAt coversSecond dayHolding secondAt covers dayLength start offset builtin kind yearStart yearsTo row monthLength isDate isOrdinal dayIndex ordinalOn dateIn indexOfDate indexOfOrdinal indexOfDay ordinalAt K.isCuc K.tagWith K.tagIn K.tagAt K.tagOf K.listPeriodic K.listCuc startAt momentsIn firstSecond loweredBy counted namedIn filter consIf range up calendarAs clockAs unzoned timeIn alone joined formed goodDay goodClock tagOf names dayFits clockFits AsciiTag.covered AsciiTag.listWanted AsciiTag.listAscii shapeOf days months hours minutes
+unfolding good within known laid cucLaid cdsLaid ccsLaid scanIn scanAt scanOf writeOf roomed countOf U.isLayout U.width U.unit U.timeOf U.field U.holds U.countOf U.bytesOf A.width A.layoutOf A.dayAt A.clockAt A.fieldsOf A.timeOf A.textBy A.dayText A.clockText A.codeText A.bytesBy shaped shapes L.utcOfSecond L.readingOf L.raisedBy L.secondOfUtc L.secondOf readingAt coversSecond dayHolding secondAt covers dayLength start offset builtin kind yearStart yearsTo row monthLength isDate isOrdinal dayIndex ordinalOn dateIn indexOfDate indexOfOrdinal indexOfDay ordinalAt K.isCuc K.tagWith K.tagIn K.tagAt K.tagOf K.listPeriodic K.listCuc startAt momentsIn firstSecond counted namedIn filter consIf range up calendarAs clockAs unzoned timeIn alone joined formed goodDay goodClock tagOf names dayFits clockFits AsciiTag.covered AsciiTag.listWanted AsciiTag.listAscii shapeOf days months hours minutes
 refusals = refl

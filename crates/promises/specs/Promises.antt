@@ -6,7 +6,6 @@ use mathlib.Core.Logic.{_⊎_, _↔_}
 use Prim.Native.Nat.{ℕ, _+_, _*_, _/_, _%_, _^_, _≤_, min}
 use lib.IntN.{ℤ, pos, _+ℤ_}
 use lib.ListN.{length, getD, take, drop}
-use lib.Signed.{ltZ}
 use Rattle.base.specs.Outcome.{Outcome, done, refused, given}
 use Rattle.scale.specs.Time.{Time, perSecond, worth, isRecord, differenceOf, shiftOf}
 use Rattle.scale.specs.Latest.{Latest}
@@ -33,7 +32,7 @@ use Rattle.codes.specs.declared.setting.Setting.the-variants.{Binary, Ascii}
 use Rattle.window.specs.Among.{Among, Ascending}
 use Rattle.window.specs.Window.{Listed, Named}
 use Rattle.tag.specs.Shortening as A
-use Rattle.tags.specs.Records.{Inside}
+use Rattle.tags.specs.Records.{Inside, Sooner}
 use Rattle.tags.specs.CucTag as C
 use Rattle.tags.specs.AsciiTag as T
 
@@ -234,9 +233,6 @@ pub record Counted (s : List ℕ) (p : Preamble) (e : ℤ) (m : Time) : Type 0 w
 abbrev pub NamedBy : Shortened → Time → Type 0
 NamedBy (counter s p e) m = (isRecord m ≡ true) × Counted s p e m
 NamedBy (letters s) m = A.Names s m
-
-abbrev pub Sooner : ℤ → ℤ → Type 0
-Sooner y z = ltZ y z ≡ true
 
 -- what stands in a list that a call filled: its first elements, as many as the answer says
 abbrev pub shown : Listed → List ℤ → List ℤ

@@ -5,9 +5,10 @@ use Prim.Native.Nat.{ℕ, _+_, _-_, _*_, _/_, _%_}
 use lib.Dec.{eqb, leb}
 use lib.IntN.{ℤ}
 use Rattle.base.specs.Outcome.{Outcome, done, refused, need}
+use Rattle.base.specs.Parts.{loweredBy}
 use Rattle.calendar.specs.Gregorian.{ordinalOn, dateIn}
 use Rattle.leap.specs.Table.{Table, start, readingAt}
-use Rattle.leap.specs.Utc.{secondRaise, loweredBy}
+use Rattle.leap.specs.Utc.{secondRaise}
 use Rattle.leap.specs.declared.Reading.{Reading}
 use Rattle.clock.specs.Clock.{minuteOf}
 use Rattle.window.specs.Window.{Named, namedIn}

@@ -9,6 +9,7 @@ use lib.Dec.{ltb, lit≤}
 use lib.ListN.{length}
 use borrow.Author.Tests.{le-leb}
 use Rattle.base.specs.Outcome.{Outcome, done, refused, need, andThen, given}
+use Rattle.base.specs.Parts.{loweredBy}
 use Rattle.base.proofs.Ladders.{never, done-is, refused-is, need-yes, need-done, given-done}
 use Rattle.base.proofs.Bools.{and-true}
 use Rattle.scale.specs.Time.{Time}
@@ -16,8 +17,9 @@ use Rattle.clock.proofs.Laws.{shows}
 use Rattle.leap.specs.declared.Reading.{Reading}
 use Rattle.leap.specs.Builtin.{builtin}
 use Rattle.leap.specs.Table.{offset, covers, dayLength, reading, secondAt}
-use Rattle.leap.specs.Utc.{secondRaise, loweredBy, readingOf, secondOf}
+use Rattle.leap.specs.Utc.{secondRaise, readingOf, secondOf}
 use Rattle.leap.proofs.Builtin.{builtin-good}
+use Rattle.leap.proofs.Promises.{reading-back, second-back}
 use Rattle.ascii.specs.declared.Layout.{Layout}
 use Rattle.ascii.specs.declared.Moment.{Moment}
 use Rattle.ascii.specs.Shapes.{shaped}
@@ -29,7 +31,7 @@ use Rattle.ascii.proofs.Reading.{day-4}
 use Rattle.ascii.proofs.Texts.{code-length}
 use Rattle.ascii.proofs.Back.{code-shaped, fields-back}
 use Rattle.ascii.proofs.Forth.{code-again, part-lt, day-high}
-use Rattle.ascii.proofs.Trips.{told, utc-again, utc-read}
+use Rattle.ascii.proofs.Trips.{told}
 use Rattle.seek.specs.declared.Tag.{Tag}
 use Rattle.seek.specs.Naming.{dayFits, clockFits, fitsReading}
 use Rattle.tag.specs.Tags.{tagOf}
@@ -124,7 +126,7 @@ names-by : (t : Tag) (m : Time) (n x k : ℕ) → dayFits (t .calendar) n ≡ tr
 unfolding timeOf
 names-by t m n x k d c i e =
     let (z, (a, b)) = given-done (λ z. time z k) (secondOf builtin n x) m e in
-    let u : readingOf builtin (m .sec) ≡ done (reading builtin n x) = rw (ap (λ (y : Time). y .sec) b) at (utc-again builtin builtin-good z n x a) in
+    let u : readingOf builtin (m .sec) ≡ done (reading builtin n x) = rw (ap (λ (y : Time). y .sec) b) at (second-back builtin builtin-good n x z a) in
     (rw (u, d, c), sym (ap (λ (y : Time). y .ticks) b) ∙ sym i)
 
 -- the tag names what a full code of which it is a shortening reads to ..
@@ -166,7 +168,7 @@ named-names s t e m (f, i) = go (readingOf builtin (m .sec)) refl f
     go (refused n) h f = absurd (false≢true f)
     go (done u) h f =
         let (d, c) = and-true (dayFits (t .calendar) (u .day)) (clockFits (t .clock) (u .second)) f in
-        let w = utc-read builtin builtin-good (m .sec) u h in
+        let w = reading-back builtin builtin-good (m .sec) u h in
         let (code, (g, r)) = code-of s (u .day) (u .second) (t .ticks) (omega (arith, w .covered, days)) (w .low) (completed s t (u .day) (u .second) p d c) in
         (code, (g, r ∙ ap (given (λ z. time z (t .ticks))) (w .back) ∙ ap (λ (k : ℕ). done (time (m .sec) k)) (sym i)))
 

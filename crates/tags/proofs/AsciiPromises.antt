@@ -24,10 +24,10 @@ use Rattle.seek.specs.Naming.{names, fitsReading}
 use Rattle.tag.specs.Tags.{tagOf}
 use Rattle.tag.specs.Shortening.{Names, Nameless}
 use Rattle.tag.proofs.Naming as N
-use Rattle.tags.specs.Records.{windowed, momentsIn, IsListed, Inside, joined}
+use Rattle.tags.specs.Records.{windowed, momentsIn, IsListed, Inside, Sooner, joined}
 use Rattle.tags.specs.AsciiTag.{onset, covered, listWanted, listAscii}
 use Rattle.tags.proofs.Windows.{Ordered, windowed-told, windowed-yes, ordered-then}
-use Rattle.tags.proofs.Records.{Sooner, From, later-from, listed-named, named-listed, ascends, adjoins}
+use Rattle.tags.proofs.Records.{From, later-from, listed-named, named-listed, ascends, adjoins}
 use Rattle.tags.proofs.AsciiWindows.{covered-is}
 
 -- ---- the listing

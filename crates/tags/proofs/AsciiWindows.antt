@@ -14,7 +14,7 @@ use Rattle.scale.specs.Time.{Time, earlier}
 use Rattle.leap.specs.Table.{start}
 use Rattle.leap.specs.Builtin.{builtin}
 use Rattle.leap.specs.Utc.{secondRaise}
-use Rattle.window.specs.Seconds.{raisedBy, loweredBy, firstSecond}
+use Rattle.window.specs.Seconds.{raisedBy, firstSecond}
 use Rattle.window.specs.Window.{Lists}
 use Rattle.window.specs.declared.Listing.{Listing}
 use Rattle.window.proofs.Seconds.{lowered-from, raised-lowered}
@@ -64,7 +64,7 @@ covered-is k from to o e =
 
 module _ (from to : Time) (g : Tag) (o : Ordered from to) (e : covered builtin from to ≡ true) where
   wanted-lists : listOf builtin g (startAt secondRaise (g .ticks) from) (startAt secondRaise (g .ticks) to) ≡ listWanted builtin from to g
-  unfolding listOf listWanted coversWindow momentsIn loweredBy
+  unfolding listOf listWanted coversWindow momentsIn
   wanted-lists =
       let c = covered-is (g .ticks) from to o e in
       need-yes 5 _ (and-yes _ (le-leb _ _ (c .low)) ∙ le-leb _ _ (c .high))

@@ -3,7 +3,7 @@ use mathlib.Core.Bool.{true}
 use mathlib.Core.List.{List}
 use mathlib.Core.Logic.{_↔_}
 use mathlib.Core.Path.{_≡_, sym, ap, _∙_}
-use Prim.Native.Nat.{ℕ, _+_, _^_, _<_, _≤_}
+use Prim.Native.Nat.{ℕ, _+_, _^_, _≤_}
 use native.Mathlib.Omega.{arith}
 use borrow.Author.Tests.{leb-true}
 use lib.Dec.{leb, lit<}
@@ -33,11 +33,11 @@ use Rattle.codes.specs.declared.Preamble.the-variants.{Front, Given}
 use Rattle.codes.specs.declared.pfield.Layout.{Layout}
 use Rattle.codes.specs.declared.pfield.Layout.the-variants.{Cuc, Cds, Ccs}
 use Rattle.codes.proofs.Layouts.{laid-good}
-use Rattle.tags.specs.Records.{momentsIn, IsListed, Inside, joined}
+use Rattle.tags.specs.Records.{momentsIn, IsListed, Inside, Sooner, joined}
 use Rattle.tags.specs.CucTag.{Periodic, isCuc, tagWith, tagIn, tagAt, tagOf, listPeriodic, listCuc, Names, CutTo}
 use Rattle.tags.specs.Inner.{Short}
 use Rattle.tags.proofs.Windows.{Ordered, windowed-told, windowed-yes, ordered-then}
-use Rattle.tags.proofs.Records.{Sooner, inside-valid, listed-named, named-listed, ascends, adjoins}
+use Rattle.tags.proofs.Records.{inside-valid, listed-named, named-listed, ascends, adjoins}
 use Rattle.tags.proofs.CucTags.{whole, tag-good}
 use Rattle.tags.proofs.CucNaming.{follows-named, named-follows, counted-follows, follows-counted, names-cut}
 

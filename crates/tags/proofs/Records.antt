@@ -9,21 +9,21 @@ use borrow.Author.Tests.{lt-ltb, le-ltb, ltb-true, ltb-false}
 use lib.Dec.{ltb, lit<}
 use lib.IntN.{ℤ}
 use lib.Signed.{ltZ}
-use Rattle.base.specs.Parts.{plus, minus}
+use Rattle.base.specs.Parts.{plus, minus, loweredBy}
 use Rattle.base.proofs.Bools.{never-both}
-use Rattle.base.proofs.Signed.{ltZ-at, lt-yes, lt-no, apart}
+use Rattle.base.proofs.Signed.{ltZ-at, lt-yes, lt-no, apart, lower-is}
 use Rattle.scale.specs.Time.{Time, perSecond, isRecord, earlier}
 use Rattle.scale.specs.Inner.{Within}
 use Rattle.scale.proofs.Laws.{good-within, within-good}
 use Rattle.window.specs.Among.{Among, Ascending}
-use Rattle.window.specs.Seconds.{raisedBy, loweredBy, firstSecond}
+use Rattle.window.specs.Seconds.{raisedBy, firstSecond}
 use Rattle.window.specs.Window.{namedIn}
 use Rattle.window.proofs.Maps.{among-map, among-of, ascends-map}
 use Rattle.window.proofs.Members.{right}
 use Rattle.window.proofs.Moments.{splice}
-use Rattle.window.proofs.Seconds.{raised-at, lowered-at, lowered-from, raised-lowered, lowered-raised}
+use Rattle.window.proofs.Seconds.{raised-at, lowered-from, raised-lowered, lowered-raised}
 use Rattle.window.proofs.Ticks.{before-first, first-up}
-use Rattle.tags.specs.Records.{startAt, momentsIn, IsListed, Inside, joined}
+use Rattle.tags.specs.Records.{startAt, momentsIn, IsListed, Inside, Sooner, joined}
 
 -- the order by the seconds alone
 not-earlier : (m t : Time) → earlier m t ≡ false → plus (t .sec) + minus (m .sec) ≤ plus (m .sec) + minus (t .sec)
@@ -80,10 +80,6 @@ inside-valid from to m p q t (i, j) =
       below = t;
     })
 
--- earlier by its seconds
-abbrev pub Sooner : ℤ → ℤ → Type 0
-Sooner y z = ltZ y z ≡ true
-
 module _ (B : ℕ) (p : ℕ → Bool) (k : ℕ) where
   -- a time that p names, at tick k
   abbrev pub Named-at : Time → Type 0
@@ -130,7 +126,7 @@ module _ (B : ℕ) (p : ℕ → Bool) (k : ℕ) where
     pub ascends : Ascending Sooner (momentsIn B p k from to .all)
     unfolding momentsIn
     ascends =
-        ascends-map (loweredBy B) _<_ Sooner (λ x y h. ltZ-at B x y (loweredBy B x) (loweredBy B y) (lowered-at B x) (lowered-at B y) ∙ lt-ltb x y h)
+        ascends-map (loweredBy B) _<_ Sooner (λ x y h. ltZ-at B x y (loweredBy B x) (loweredBy B y) (lower-is B x) (lower-is B y) ∙ lt-ltb x y h)
         (right p (startAt B k from) (startAt B k to) ends .ascends)
 
   -- the list of a window followed by that of the adjoining one is the list of both

@@ -4,11 +4,11 @@ use mathlib.Core.List.{List}
 use Prim.Native.Nat.{ℕ, _+_}
 use lib.IntN.{ℤ}
 use Rattle.base.specs.Outcome.{Outcome, done, need, andThen}
+use Rattle.base.specs.Parts.{loweredBy}
 use Rattle.scale.specs.Time.{Time, earlier}
 use Rattle.leap.specs.Table.{Table, start}
 use Rattle.leap.specs.Builtin.{builtin}
 use Rattle.leap.specs.Utc.{secondRaise}
-use Rattle.window.specs.Seconds.{loweredBy}
 use Rattle.window.specs.Window.{Named}
 use Rattle.seek.specs.declared.Tag.{Tag}
 use Rattle.seek.specs.Naming.{names}

@@ -4,10 +4,12 @@ use mathlib.Core.List.{map, _++_}
 use mathlib.Core.Path.{_≡_}
 use Prim.Native.Nat.{ℕ}
 use lib.IntN.{ℤ}
+use lib.Signed.{ltZ}
 use Rattle.base.specs.Outcome.{Outcome, need}
+use Rattle.base.specs.Parts.{loweredBy}
 use Rattle.scale.specs.Time.{Time, isRecord, earlier}
 use Rattle.window.specs.Among.{Among}
-use Rattle.window.specs.Seconds.{raisedBy, loweredBy, firstSecond}
+use Rattle.window.specs.Seconds.{raisedBy, firstSecond}
 use Rattle.window.specs.Window.{Named, namedIn}
 
 -- "Listing: .. then records 7, 9": an invalid record, and the window's end before its start
@@ -30,6 +32,10 @@ IsListed x m = (m .ticks ≡ x .ticks) × Among (m .sec) (x .all)
 -- m is not before the start, and before the end
 abbrev pub Inside : Time → Time → Time → Type 0
 Inside from to m = (earlier m from ≡ false) × (earlier m to ≡ true)
+
+-- earlier by its seconds
+abbrev pub Sooner : ℤ → ℤ → Type 0
+Sooner y z = ltZ y z ≡ true
 
 -- one list followed by another of the same tick count
 abbrev pub joined : Named ℤ → Named ℤ → Named ℤ

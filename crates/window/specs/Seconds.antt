@@ -2,16 +2,12 @@
 use mathlib.Core.Bool.{cond}
 use Prim.Native.Nat.{ℕ, _+_, _-_}
 use lib.Dec.{ltb}
-use lib.IntN.{ℤ, subℕ}
+use lib.IntN.{ℤ}
 use Rattle.base.specs.Parts.{plus, minus}
 
 -- z + B, of a second z from -B on
 abbrev pub raisedBy : ℕ → ℤ → ℕ
 raisedBy B z = B + plus z - minus z
-
--- x - B
-unfoldable pub loweredBy : ℕ → ℕ → ℤ
-loweredBy B x = subℕ x B
 
 -- the first second whose moment at tick k is at or after second s and tick u
 unfoldable pub firstSecond : ℕ → ℕ → ℕ → ℕ

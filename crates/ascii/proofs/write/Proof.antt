@@ -18,8 +18,8 @@ use Rattle.leap.specs.Utc.{readingOf}
 use Rattle.leap.specs.Answers.{saysReading}
 use Rattle.leap.proofs.Builtin.{builtin-good}
 use Rattle.leap.proofs.Cover.{reading-low}
+use Rattle.leap.proofs.Promises.{reading-back}
 use Rattle.ascii.proofs.Texts.{bytes-invalid, bytes-digits, bytes-uncovered, bytes-done}
-use Rattle.ascii.proofs.Trips.{utc-read}
 use Rattle.ascii.proofs.write.Statement.{statement}
 use Rattle.ascii.proofs.write.Tie as tie
 
@@ -62,7 +62,7 @@ store-requires : tie.Need-store-requires
 store-requires c κs =
     let k = c .before .before .before in
     let z = k .before .before .before .before .before .before .before .before .args .r .sec in
-    (omega (arith, reading-low _ _ (found k)), utc-read builtin builtin-good z (k .answer2 .given .0 .0) (found k) .low, omega arith)
+    (omega (arith, reading-low _ _ (found k)), reading-back builtin builtin-good z (k .answer2 .given .0 .0) (found k) .low, omega arith)
 
 returns-3 : tie.Need-returns-3
 returns-3 c =

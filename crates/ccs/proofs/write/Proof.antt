@@ -20,9 +20,9 @@ use Rattle.leap.specs.Builtin.{builtin}
 use Rattle.leap.specs.Utc.{readingOf}
 use Rattle.leap.specs.Answers.{saysReading}
 use Rattle.leap.proofs.Builtin.{builtin-good}
+use Rattle.leap.proofs.Promises.{reading-back}
 use Rattle.ccs.specs.Ccs.{clockText, partOf}
 use Rattle.ccs.proofs.Parts.{grain}
-use Rattle.ccs.proofs.Times.{reading-back}
 use Rattle.ccs.proofs.Rungs.{wrote-by, not-record, not-layout, not-covered, covered}
 use Rattle.ccs.proofs.write.Statement.{statement}
 use Rattle.ccs.proofs.write.Tie as tie
@@ -76,7 +76,7 @@ enum-known-date-2 : tie.Need-enum-known-date-2
 enum-known-date-2 c = search needs
 
 clock-digits-requires : tie.Need-clock-digits-requires
-clock-digits-requires c κs = reading-back builtin builtin-good _ _ (read (c .before .before .before .before .before)) .1
+clock-digits-requires c κs = reading-back builtin builtin-good _ _ (read (c .before .before .before .before .before)) .low
 
 unit-requires : tie.Need-unit-requires
 unit-requires c κs = search needs

@@ -16,9 +16,10 @@ use Rattle.leap.specs.Builtin.{builtin}
 use Rattle.leap.specs.Utc.{utcOfSecond}
 use Rattle.leap.specs.Answers.{saysUtc}
 use Rattle.leap.proofs.Builtin.{builtin-good}
+use Rattle.leap.proofs.Promises.{utc-low}
 use Rattle.cds.specs.Cds.{isLayout}
 use Rattle.cds.proofs.Laws.{layout-good}
-use Rattle.cds.proofs.Stores.{bytes-invalid, bytes-none, bytes-uncovered, bytes-on, second-low}
+use Rattle.cds.proofs.Stores.{bytes-invalid, bytes-none, bytes-uncovered, bytes-on}
 use Rattle.cds.proofs.write.Statement.{statement}
 use Rattle.cds.proofs.write.Tie as tie
 
@@ -67,7 +68,7 @@ put-requires c κs =
     let b = k .before .before in
     let e = b .before .before in
     let a = e .before .before .before .before .before .args in
-    (layout-good (a .l) (laid e), second-low builtin builtin-good (a .r .sec) (k .u .given .0 .0) (told b ∙ ap saysUtc (k .u .given .1)), good-within (2 ^ 41) (recorded (a .r)) (lit< tt) (ok (e .before .before)) .below)
+    (layout-good (a .l) (laid e), utc-low builtin builtin-good (a .r .sec) (k .u .given .0 .0) (told b ∙ ap saysUtc (k .u .given .1)), good-within (2 ^ 41) (recorded (a .r)) (lit< tt) (ok (e .before .before)) .below)
 
 returns-3 : tie.Need-returns-3
 returns-3 c =

@@ -1,16 +1,15 @@
 -- `counter::run` meets its contract. The loop's invariant: what is named before `at` is listed, and `at` is named.
 use mathlib.Core.Bool.{true}
 use mathlib.Core.List.{map}
-use mathlib.Core.Path.{_≡_, refl, sym, ap, _∙_}
+use mathlib.Core.Path.{_≡_, sym, ap, _∙_}
 use Prim.Native.Nat.{_-_, _^_}
 use native.Mathlib.Omega.{arith}
 use borrow.Author.Needs.{needs}
-use lib.IntN.{ℤ, subℕ}
 use mir.Syntax.{w64}
 use mir.Val.{toZ, ofZ}
-use Rattle.base.proofs.Signed.{same, less}
+use Rattle.base.specs.Parts.{loweredBy}
+use Rattle.base.proofs.Signed.{lower-at}
 use Rattle.window.specs.Window.{namedIn}
-use Rattle.window.specs.Seconds.{loweredBy}
 use Rattle.window.proofs.Moments.{empty}
 use Rattle.window.proofs.Room.{Filling, fill-start, fill-more, fill-full, fill-done}
 use Rattle.counter.specs.Counter.{names, countBelow}
@@ -67,11 +66,9 @@ loop-less c = omega arith
 
 -- what is stored is the second, as a signed one
 stored : (c : tie.After-lowered Inv-loop μ-loop) → toZ w64 (ofZ w64 (c .lowered .result)) ≡ loweredBy (2 ^ 41) (c .before .before .before .loop .at)
-unfolding loweredBy
 stored c =
-    let x = c .before .before .before .loop .at in
     let e : toZ w64 (ofZ w64 (c .lowered .result)) ≡ c .lowered .result = search needs in
-    e ∙ same (c .lowered .result) (subℕ x (2 ^ 41)) (omega (arith, c .lowered .ensures, less x (2 ^ 41)))
+    e ∙ sym (lower-at (2 ^ 41) (c .before .before .before .loop .at) (c .lowered .result) (omega (arith, c .lowered .ensures)))
 
 loop-again : tie.Need-loop-again Inv-loop μ-loop
 loop-again c =

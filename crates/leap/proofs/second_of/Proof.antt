@@ -5,12 +5,13 @@ use borrow.Author.Needs.{needs}
 use mir.Syntax.{w64}
 use mir.Val.{toZ, ofZ}
 use Rattle.base.specs.Outcome.{done, given}
+use Rattle.base.specs.Parts.{loweredBy}
+use Rattle.base.proofs.Signed.{lower-at}
 use Rattle.leap.specs.Table.{secondAt}
 use Rattle.leap.specs.Builtin.{builtin}
-use Rattle.leap.specs.Utc.{secondRaise, loweredBy, secondOf}
+use Rattle.leap.specs.Utc.{secondRaise, secondOf}
 use Rattle.leap.specs.Answers.{saysRaised}
 use Rattle.leap.proofs.Cover.{second-low}
-use Rattle.leap.proofs.Raised.{lower-at}
 use Rattle.leap.proofs.second_of.Statement.{statement}
 use Rattle.leap.proofs.second_of.Tie as tie
 

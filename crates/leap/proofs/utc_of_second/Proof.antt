@@ -6,12 +6,12 @@ use borrow.Author.Needs.{needs}
 use mir.Syntax.{w64}
 use mir.Val.{toZ, ofZ}
 use Rattle.base.specs.Outcome.{done, given}
-use Rattle.base.proofs.Signed.{back}
+use Rattle.base.specs.Parts.{loweredBy}
+use Rattle.base.proofs.Signed.{back, lower-at}
 use Rattle.leap.specs.Builtin.{builtin}
-use Rattle.leap.specs.Utc.{dayRaise, offsetRaise, loweredBy, utc, readingOf, utcOfSecond}
+use Rattle.leap.specs.Utc.{dayRaise, offsetRaise, utc, readingOf, utcOfSecond}
 use Rattle.leap.specs.Answers.{saysReading}
 use Rattle.leap.proofs.Cover.{reading-low}
-use Rattle.leap.proofs.Raised.{lower-at}
 use Rattle.leap.proofs.utc_of_second.Statement.{statement}
 use Rattle.leap.proofs.utc_of_second.Tie as tie
 

@@ -7,9 +7,10 @@ use lib.IntN.{ℤ}
 use lib.ListN.{length}
 use mir.Syntax.{w64}
 use mir.Val.{toZ, ofZ}
+use Rattle.base.specs.Parts.{loweredBy}
+use Rattle.base.proofs.Signed.{lower-at}
 use Rattle.leap.specs.Builtin.{builtin}
-use Rattle.leap.specs.Utc.{secondRaise, loweredBy}
-use Rattle.leap.proofs.Raised.{lower-at}
+use Rattle.leap.specs.Utc.{secondRaise}
 use Rattle.window.specs.Window.{namedIn, firstOf}
 use Rattle.window.specs.declared.Found.the-variants.{At}
 use Rattle.window.proofs.Moments.{Least, least-of}

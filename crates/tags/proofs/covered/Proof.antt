@@ -4,7 +4,6 @@ use mathlib.Core.Bool.{Bool, not, _&&_}
 use borrow.Author.Needs.{needs}
 use Rattle.leap.specs.Table.{start, offset}
 use Rattle.leap.specs.Builtin.{builtin}
-use Rattle.window.specs.Seconds.{loweredBy}
 use Rattle.tags.specs.AsciiTag.{covered}
 use Rattle.tags.proofs.covered.Statement.{statement}
 use Rattle.tags.proofs.covered.Tie as tie
@@ -16,7 +15,7 @@ before-requires-2 : tie.Need-before-requires-2
 before-requires-2 c κs = search needs
 
 returns : tie.Need-returns
-unfolding covered start offset builtin loweredBy
+unfolding covered start offset builtin
 returns c = ap₂ (λ (a b : Bool). not a && not b) (c .before .before2 .ensures) (c .before3 .ensures)
 
 pub covered-spec : {M : Type 1} → statement M
