@@ -1,7 +1,5 @@
 // The binary codes, read and written.
-use codes::Preamble;
 use codes::Reading;
-use octets::Written;
 use scale::Record;
 ghost use mathlib.Core.Path.{_≡_};
 ghost use Rattle.base.specs.Outcome.{status, cell};
@@ -27,15 +25,9 @@ pub extern "C" fn hz_read_binary(
     ensures parts { λ _. ⌜ now (ticks .exit) ≡ cell scannedTicks (scanOf (now (bytes .entry)) (from front p) epoch) (now (ticks .entry)) ⌝ }
     ensures count { λ _. ⌜ now (used .exit) ≡ cell scannedUsed (scanOf (now (bytes .entry)) (from front p) epoch) (now (used .entry)) ⌝ }
 {
-    if front {
-        return give(codes::scan(bytes, Preamble::Front, epoch), sec, ticks, used);
-    }
-    give(
-        codes::scan(bytes, Preamble::Given(p), epoch),
-        sec,
-        ticks,
-        used,
-    )
+    let preamble = super::preambles::preamble_of(front, p);
+    let a = codes::scan(bytes, preamble, epoch);
+    give(a, sec, ticks, used)
 }
 
 // A reading into its cells.
@@ -77,11 +69,6 @@ pub extern "C" fn hz_write_binary(
         sec: sec,
         ticks: ticks,
     };
-    match codes::write_binary(r, p, epoch, front, out) {
-        Written::Refused(why) => why.number(),
-        Written::Done(n) => {
-            *written = n;
-            0
-        }
-    }
+    let a = codes::write_binary(r, p, epoch, front, out);
+    super::answers::give_length(a, written)
 }

@@ -4,6 +4,7 @@ use calendar::DayAnswer;
 use calendar::OrdinalAnswer;
 ghost use mathlib.Core.Path.{_≡_};
 ghost use Rattle.base.specs.Outcome.{status, cell};
+ghost use Rattle.calendar.specs.Answers.{saysDay};
 ghost use Rattle.calendar.specs.Gregorian.{dayOfDate, dayOfOrdinal, dateOfDay, ordinalOfDay};
 ghost use Rattle.honigzange.specs.Cells.{itself, yearOf, monthOf, dayOf, ordinalYear, ordinalDay};
 
@@ -13,13 +14,8 @@ pub extern "C" fn hz_day_of_date(year: u64, month: u64, day: u64, number: &mut i
     ensures answer { λ r. ⌜ r ≡ status (dayOfDate year month day) ⌝ }
     ensures day { λ _. ⌜ now (number .exit) ≡ cell itself (dayOfDate year month day) (now (number .entry)) ⌝ }
 {
-    match calendar::day_of_date(year, month, day) {
-        DayAnswer::Refused(why) => why.number(),
-        DayAnswer::Done(n) => {
-            *number = n;
-            0
-        }
-    }
+    let a = calendar::day_of_date(year, month, day);
+    give_number(a, number)
 }
 
 // The date of a day number.
@@ -47,7 +43,16 @@ pub extern "C" fn hz_day_of_ordinal(year: u64, day: u64, number: &mut i64) -> u8
     ensures answer { λ r. ⌜ r ≡ status (dayOfOrdinal year day) ⌝ }
     ensures day { λ _. ⌜ now (number .exit) ≡ cell itself (dayOfOrdinal year day) (now (number .entry)) ⌝ }
 {
-    match calendar::day_of_ordinal(year, day) {
+    let a = calendar::day_of_ordinal(year, day);
+    give_number(a, number)
+}
+
+// A day number into its cell.
+fn give_number(a: DayAnswer, number: &mut i64) -> u8
+    ensures answer { λ r. ⌜ r ≡ status (saysDay a) ⌝ }
+    ensures day { λ _. ⌜ now (number .exit) ≡ cell itself (saysDay a) (now (number .entry)) ⌝ }
+{
+    match a {
         DayAnswer::Refused(why) => why.number(),
         DayAnswer::Done(n) => {
             *number = n;

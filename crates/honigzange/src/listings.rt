@@ -1,5 +1,4 @@
 // The moments that a shortened tag names in a window, listed.
-use codes::Preamble;
 use scale::Record;
 use window::Listing;
 ghost use mathlib.Core.Path.{_≡_};
@@ -40,19 +39,9 @@ pub extern "C" fn hz_list_cuc(
         sec: end,
         ticks: endticks,
     };
-    let preamble = preamble_of(front, p);
+    let preamble = super::preambles::preamble_of(front, p);
     let a = tags::list_cuc(tag, preamble, epoch, since, before, list);
     give(a, ticks, count, more)
-}
-
-// Where the P octet is.
-fn preamble_of(front: bool, p: u8) -> Preamble
-    ensures { λ r. ⌜ r ≡ from front p ⌝ }
-{
-    if front {
-        return Preamble::Front;
-    }
-    Preamble::Given(p)
 }
 
 // What a shortened ASCII tag names.

@@ -1,11 +1,10 @@
 // Records and spans.
 use scale::Record;
-use scale::RecordAnswer;
 use scale::Span;
 use scale::SpanAnswer;
 ghost use mathlib.Core.Path.{_≡_};
 ghost use Rattle.base.specs.Outcome.{status, cell};
-ghost use Rattle.scale.specs.Time.{Time, differenceOf, shiftOf};
+ghost use Rattle.scale.specs.Time.{differenceOf, shiftOf};
 ghost use Rattle.honigzange.specs.Cells.{time, secOf, ticksOf};
 
 // a - b
@@ -64,14 +63,6 @@ pub extern "C" fn hz_shift(
         sec: by_sec,
         ticks: by_ticks,
     };
-    match scale::shift(r, s) {
-        RecordAnswer::Refused(why) => why.number(),
-        RecordAnswer::Done(to) => {
-            let whole = to.sec;
-            let part = to.ticks;
-            *to_sec = whole;
-            *to_ticks = part;
-            0
-        }
-    }
+    let a = scale::shift(r, s);
+    super::answers::give_record(a, to_sec, to_ticks)
 }

@@ -1,7 +1,5 @@
 // ASCII codes, read and written, and the wall clock.
-use octets::Written;
 use scale::Record;
-use scale::RecordAnswer;
 ghost use mathlib.Core.Path.{_≡_};
 ghost use Rattle.base.specs.Outcome.{status, cell};
 ghost use Rattle.octets.specs.Writes.{filled};
@@ -16,16 +14,8 @@ pub extern "C" fn hz_read_ascii(code: &[u8], sec: &mut i64, ticks: &mut u64) -> 
     ensures seconds { λ _. ⌜ now (sec .exit) ≡ cell secOf (text (now (code .entry))) (now (sec .entry)) ⌝ }
     ensures parts { λ _. ⌜ now (ticks .exit) ≡ cell ticksOf (text (now (code .entry))) (now (ticks .entry)) ⌝ }
 {
-    match ascii::read(code) {
-        RecordAnswer::Refused(why) => why.number(),
-        RecordAnswer::Done(r) => {
-            let whole = r.sec;
-            let part = r.ticks;
-            *sec = whole;
-            *ticks = part;
-            0
-        }
-    }
+    let a = ascii::read(code);
+    super::answers::give_record(a, sec, ticks)
 }
 
 // A moment as an ASCII code.
@@ -52,13 +42,8 @@ pub extern "C" fn hz_write_ascii(
         digits: digits as usize,
         zone: z,
     };
-    match ascii::write(r, l, out, 0) {
-        Written::Refused(why) => why.number(),
-        Written::Done(n) => {
-            *written = n;
-            0
-        }
-    }
+    let a = ascii::write(r, l, out, 0);
+    super::answers::give_length(a, written)
 }
 
 // A moment in the default setting.
@@ -72,11 +57,6 @@ pub extern "C" fn hz_write_wall(sec: i64, ticks: u64, out: &mut [u8], written: &
         sec: sec,
         ticks: ticks,
     };
-    match codes::setting::write_wall(r, out) {
-        Written::Refused(why) => why.number(),
-        Written::Done(n) => {
-            *written = n;
-            0
-        }
-    }
+    let a = codes::setting::write_wall(r, out);
+    super::answers::give_length(a, written)
 }

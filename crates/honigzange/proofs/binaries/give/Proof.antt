@@ -1,5 +1,5 @@
 -- `honigzange::binaries::give` meets its contract.
-use mathlib.Core.Path.{_≡_, refl, sym, ap, _∙_}
+use mathlib.Core.Path.{refl, ap}
 use borrow.Author.Needs.{needs}
 use Rattle.codes.specs.Answers.{saysReading}
 use Rattle.honigzange.proofs.binaries.give.Statement.{statement}

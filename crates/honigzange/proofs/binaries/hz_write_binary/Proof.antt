@@ -1,60 +1,33 @@
 -- `honigzange::binaries::hz_write_binary` meets its contract.
-use mathlib.Core.Path.{_≡_, refl, sym, ap, _∙_, subst}
 use borrow.Author.Needs.{needs}
+use denote.Ref.{now}
 use mir.Syntax.{w64}
 use Rattle.base.proofs.Signed.{back}
 use Rattle.octets.specs.Writes.{Wrote}
-use Rattle.octets.specs.declared.Written.{Written}
 use Rattle.codes.specs.Writing.{writeOf}
 use Rattle.honigzange.specs.Cells.{time}
-use Rattle.honigzange.proofs.Writes.{tells-refusal, tells-length}
+use Rattle.honigzange.proofs.Writes.{tells-length}
 use Rattle.honigzange.proofs.binaries.hz_write_binary.Statement.{statement}
 use Rattle.honigzange.proofs.binaries.hz_write_binary.Tie as tie
+
+-- what was written, at the numbers themselves
+told : (c : tie.After-write-binary) → let a = c .before .before .before .args in Wrote (writeOf (time (a .sec) (a .ticks)) (a .p) (a .epoch) (a .front) (now (a .out))) 0 (now (a .out)) (c .write-binary .last .1 .1 .1 .1 .0) (c .write-binary .result)
+told c =
+    let s = c .before .before .before in
+    rw (back w64 (s .args .sec) (s .fits .sec), back w64 (s .args .epoch) (s .fits .epoch)) at (c .write-binary .ensures)
 
 write-binary-requires : tie.Need-write-binary-requires
 write-binary-requires c κs = search needs
 
--- what was written, at the numbers themselves and at a case of the answer
-told : (c : tie.After-write-binary) (a : Written) → c .write-binary .result ≡ a → Wrote (writeOf (time (c .before .before .before .args .sec) (c .before .before .before .args .ticks)) (c .before .before .before .args .p) (c .before .before .before .args .epoch) (c .before .before .before .args .front) (c .before .before .before .args .out .now)) 0 (c .before .before .before .args .out .now) (c .write-binary .last .1 .1 .1 .1 .0) a
-told c a e =
-    let s = c .before .before .before in
-    subst (λ (w : Written). Wrote (writeOf (time (s .args .sec) (s .args .ticks)) (s .args .p) (s .args .epoch) (s .args .front) (s .args .out .now)) 0 (s .args .out .now) (c .write-binary .last .1 .1 .1 .1 .0) w) e
-    (rw (back w64 (s .args .sec) (s .fits .sec), back w64 (s .args .epoch) (s .fits .epoch)) at (c .write-binary .ensures))
-
-enum-known-why : tie.Need-enum-known-why
-enum-known-why c = search needs
-
-number-requires : tie.Need-number-requires
-number-requires c κs = search needs
-
-enum-known-n : tie.Need-enum-known-n
-enum-known-n c = search needs
+give-length-requires : tie.Need-give-length-requires
+give-length-requires c κs = search needs
 
 same-length : tie.Need-same-length
 same-length c = search needs
 
 returns : tie.Need-returns
-returns c =
-    let w = c .before .before in
-    tells-refusal _ _ _ _ _ _ (told (w .before .before .before .before) _ (w .why .given .1)) (c .number .ensures)
-
-same-length-2 : tie.Need-same-length-2
-same-length-2 c = search needs
-
-returns-2 : tie.Need-returns-2
-returns-2 c =
-    let w = c .before in
-    tells-length _ _ _ _ _ (told (w .before .before .before .before) _ (w .n .given .1))
+returns c = tells-length _ _ _ _ _ _ _ (told (c .before .before .before .before)) (c .give-length .ensures)
 
 pub hz-write-binary-spec : {M : Type 1} → statement M
 hz-write-binary-spec =
-    tie.close
-    (tie.spec
-    write-binary-requires
-    enum-known-why
-    number-requires
-    enum-known-n
-    same-length
-    returns
-    same-length-2
-    returns-2)
+    tie.close (tie.spec write-binary-requires give-length-requires same-length returns)

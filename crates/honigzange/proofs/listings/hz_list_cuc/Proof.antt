@@ -1,12 +1,10 @@
 -- `honigzange::listings::hz_list_cuc` meets its contract.
-use mathlib.Core.Path.{_≡_, ap, subst}
 use borrow.Author.Needs.{needs}
 use denote.Ref.{now}
 use mir.Syntax.{w64}
 use Rattle.base.proofs.Signed.{back}
 use Rattle.window.specs.Window.{Lists}
 use Rattle.codes.specs.Writing.{from}
-use Rattle.codes.specs.declared.Preamble.{Preamble}
 use Rattle.tags.specs.CucTag.{listCuc}
 use Rattle.honigzange.specs.Cells.{time}
 use Rattle.honigzange.proofs.Lists.{tells-listing}

@@ -2,8 +2,6 @@
 use mathlib.Core.Path.{_≡_, refl, sym, ap, _∙_}
 use borrow.Author.Needs.{needs}
 use mir.Syntax.{w64}
-use Rattle.base.specs.Outcome.{done, refused}
-use Rattle.base.specs.Refusals.{number}
 use Rattle.base.proofs.Signed.{back}
 use Rattle.scale.specs.Time.{differenceOf}
 use Rattle.scale.specs.Answers.{saysSpan}
@@ -15,9 +13,10 @@ difference-requires : tie.Need-difference-requires
 difference-requires c κs = search needs
 
 -- what the call answered, at the numbers themselves
-told : (c : tie.After-difference) → differenceOf (time (c .before .args .a-sec) (c .before .args .a-ticks)) (time (c .before .args .b-sec) (c .before .args .b-ticks)) ≡ saysSpan (c .difference .result)
+told : (c : tie.After-difference) → let a = c .before .args in differenceOf (time (a .a-sec) (a .a-ticks)) (time (a .b-sec) (a .b-ticks)) ≡ saysSpan (c .difference .result)
 told c =
-    sym (rw (back w64 (c .before .args .a-sec) (c .before .fits .a-sec), back w64 (c .before .args .b-sec) (c .before .fits .b-sec)) at (c .difference .ensures))
+    let s = c .before in
+    sym (rw (back w64 (s .args .a-sec) (s .fits .a-sec), back w64 (s .args .b-sec) (s .fits .b-sec)) at (c .difference .ensures))
 
 enum-known-why : tie.Need-enum-known-why
 enum-known-why c = search needs

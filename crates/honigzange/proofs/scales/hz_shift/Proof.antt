@@ -1,9 +1,7 @@
 -- `honigzange::scales::hz_shift` meets its contract.
-use mathlib.Core.Path.{_≡_, refl, sym, ap, _∙_}
+use mathlib.Core.Path.{_≡_, sym}
 use borrow.Author.Needs.{needs}
 use mir.Syntax.{w64}
-use Rattle.base.specs.Outcome.{done, refused}
-use Rattle.base.specs.Refusals.{number}
 use Rattle.base.proofs.Signed.{back}
 use Rattle.scale.specs.Time.{shiftOf}
 use Rattle.scale.specs.Answers.{saysRecord}
@@ -15,27 +13,16 @@ shift-requires : tie.Need-shift-requires
 shift-requires c κs = search needs
 
 -- what the call answered, at the numbers themselves
-told : (c : tie.After-shift) → shiftOf (time (c .before .args .sec) (c .before .args .ticks)) (time (c .before .args .by-sec) (c .before .args .by-ticks)) ≡ saysRecord (c .shift .result)
+told : (c : tie.After-shift) → let a = c .before .args in shiftOf (time (a .sec) (a .ticks)) (time (a .by-sec) (a .by-ticks)) ≡ saysRecord (c .shift .result)
 told c =
-    sym (rw (back w64 (c .before .args .sec) (c .before .fits .sec), back w64 (c .before .args .by-sec) (c .before .fits .by-sec)) at (c .shift .ensures))
+    let s = c .before in
+    sym (rw (back w64 (s .args .sec) (s .fits .sec), back w64 (s .args .by-sec) (s .fits .by-sec)) at (c .shift .ensures))
 
-enum-known-why : tie.Need-enum-known-why
-enum-known-why c = search needs
-
-number-requires : tie.Need-number-requires
-number-requires c κs = search needs
-
-enum-known-to : tie.Need-enum-known-to
-enum-known-to c = search needs
+give-record-requires : tie.Need-give-record-requires
+give-record-requires c κs = search needs
 
 returns : tie.Need-returns
-returns c = rw (told (c .before .before .before .before) ∙ ap saysRecord (c .before .before .why .given .1)) (c .number .ensures, (refl, refl))
-
-returns-2 : tie.Need-returns-2
-returns-2 c =
-    rw (told (c .before .before .before .before) ∙ ap saysRecord (c .before .before .to .given .1)) (refl, (search needs, refl))
+returns c = rw (told (c .before .before .before)) (c .give-record .ensures)
 
 pub hz-shift-spec : {M : Type 1} → statement M
-hz-shift-spec =
-    tie.close
-    (tie.spec shift-requires enum-known-why number-requires enum-known-to returns returns-2)
+hz-shift-spec = tie.close (tie.spec shift-requires give-record-requires returns)

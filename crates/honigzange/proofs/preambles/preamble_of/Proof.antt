@@ -1,10 +1,10 @@
--- `honigzange::listings::preamble_of` meets its contract.
+-- `honigzange::preambles::preamble_of` meets its contract.
 use mathlib.Core.Bool.{Bool}
 use mathlib.Core.Path.{sym, ap}
 use Rattle.codes.specs.Writing.{from}
 use borrow.Author.Needs.{needs}
-use Rattle.honigzange.proofs.listings.preamble_of.Statement.{statement}
-use Rattle.honigzange.proofs.listings.preamble_of.Tie as tie
+use Rattle.honigzange.proofs.preambles.preamble_of.Statement.{statement}
+use Rattle.honigzange.proofs.preambles.preamble_of.Tie as tie
 
 returns : tie.Need-returns
 returns c = search needs
