@@ -248,11 +248,15 @@ fn locate(s: u64) -> Reading
     }
 }
 
-// The row in force in a covered TAI second: its number is how many later rows have begun.
+// The row in force in a covered TAI second: its number is how many later rows have begun. Most seconds that are asked
+// for are in the last row.
 fn row_in_second(s: u64) -> usize
     requires { ⌜ (62198668874 ≤ s) × (s < 63902822501) ⌝ }
     ensures { λ i. ⌜ InSecond builtin s i ⌝ }
 {
+    if 63618825701 <= s {
+        return 27;
+    }
     let rows = LEAPS;
     // from 1958-01-01, as the rows are
     let t = (s - 61756905664) as u32;

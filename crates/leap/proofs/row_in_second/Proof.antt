@@ -65,6 +65,10 @@ Inv-loop s rows t n₀ i₀ n i = Counted s n i
 abbrev μ-loop : tie.MeasureT-loop
 μ-loop s rows t n₀ i₀ n i = 28 - i
 
+returns : tie.Need-returns Inv-loop μ-loop
+unfolding builtin
+returns c = record { row = omega arith; low = c .if1 .taken; high = c .before .pre .1 }
+
 sub-t : tie.Need-sub-t Inv-loop μ-loop
 sub-t c = search needs
 
@@ -123,12 +127,12 @@ loop-less c = omega arith
 cast-result : tie.Need-cast-result Inv-loop μ-loop
 cast-result c = search needs
 
-returns : tie.Need-returns Inv-loop μ-loop
-returns c =
+returns-2 : tie.Need-returns-2 Inv-loop μ-loop
+returns-2 c =
     let l = c .before .loop in
     let e : l .i ≡ 28 = omega (arith, l .inv .end) in
     let w = rw e at (l .inv) in
-    record { row = w .row; low = w .low; high = ended _ (l .n) (c .before .before .pre .1) w }
+    record { row = w .row; low = w .low; high = ended _ (l .n) (c .before .before .before .pre .1) w }
 
 pub row-in-second-spec : {M : Type 1} → statement M
 row-in-second-spec =
@@ -136,6 +140,7 @@ row-in-second-spec =
     (tie.spec
     Inv-loop
     μ-loop
+    returns
     sub-t
     cast-t
     loop-holds
@@ -155,4 +160,4 @@ row-in-second-spec =
     loop-less
     loop-again
     cast-result
-    returns)
+    returns-2)
