@@ -51,28 +51,33 @@ pub code-width : (l : Layout) (n x f : ℕ) → l .digits ≤ 12 → length (cod
 code-width l n x f h = code-length l n x f ∙ sym (width-of l h)
 
 -- ---- a character and digits
-module _ (old : List ℕ) {new : List ℕ} {r : Bool} (at w n : ℕ) where
-  pub put-digits : at + w ≤ length old → Stored (digits w n) at old new r → new ≡ pasted old at (digits w n)
-  put-digits h s = stored (let z : at + length (digits w n) ≤ length old = omega (arith, digits-length w n) in z) s .1
+pub put-mark : (old : List ℕ) {new : List ℕ} {r : Bool} (at w n c : ℕ) → at + 1 + w ≤ length old → Stored (digits w n) (at + 1) (set old at c) new r → new ≡ pasted old at (lead c w n)
+put-mark old at w n c h s =
+    stored (let z : at + 1 + length (digits w n) ≤ length (set old at c) = omega (arith, digits-length w n, length-set old at c) in z) s .1
+    ∙ paste-cons old at c (digits w n) (omega arith)
 
-  pub put-mark : (c : ℕ) → at + 1 + w ≤ length old → Stored (digits w n) (at + 1) (set old at c) new r → new ≡ pasted old at (lead c w n)
-  put-mark c h s =
-      stored (let z : at + 1 + length (digits w n) ≤ length (set old at c) = omega (arith, digits-length w n, length-set old at c) in z) s .1
-      ∙ paste-cons old at c (digits w n) (omega arith)
-
--- a character and two digits, one by one
-pub put-pair : (old : List ℕ) (at c n : ℕ) → n < 100 → at + 3 ≤ length old → set (set (set old at c) (at + 1) (48 + n / 10)) (at + 2) (48 + n % 10) ≡ pasted old at (lead c 2 n)
-put-pair old at c n l h =
+-- two digits one by one, and four by twos
+pub put-two-digits : (old : List ℕ) (at n : ℕ) → n < 100 → at + 2 ≤ length old → set (set old at (48 + n / 10)) (at + 1) (48 + n % 10) ≡ pasted old at (digits 2 n)
+put-two-digits old at n l h =
     let x = 48 + n / 10 in
     let y = 48 + n % 10 in
-    let one = set old at c in
-    let two = set one (at + 1) x in
-    let t : at + 1 + 1 ≡ at + 2 = omega arith in
     let d : n / 10 ≡ n / 10 % 10 = omega arith in
-    paste-one two (at + 2) y (omega (arith, length-set one (at + 1) x, length-set old at c))
-    ∙ rw t at (paste-cons one (at + 1) x (y ∷ []) (omega (arith, length-set old at c)))
-    ∙ paste-cons old at c (x ∷ y ∷ []) (omega arith)
-    ∙ ap (λ (z : ℕ). pasted old at (c ∷ (48 + z) ∷ y ∷ [])) d
+    paste-one (set old at x) (at + 1) y (omega (arith, length-set old at x))
+    ∙ paste-cons old at x (y ∷ []) (omega arith)
+    ∙ ap (λ (z : ℕ). pasted old at ((48 + z) ∷ y ∷ [])) d
+
+year-digits : (n h : ℕ) → h ≡ n / 100 → digits 2 h ++ digits 2 (n - h * 100) ≡ digits 4 n
+year-digits n h e =
+    let a : h / 10 % 10 ≡ n / 10 / 10 / 10 % 10 = omega arith in
+    let b : h % 10 ≡ n / 10 / 10 % 10 = omega arith in
+    let c : (n - h * 100) / 10 % 10 ≡ n / 10 % 10 = omega arith in
+    let d : (n - h * 100) % 10 ≡ n % 10 = omega arith in
+    rw (a, b, c, d)
+
+pub put-year : (old a b : List ℕ) (at n h : ℕ) → h ≡ n / 100 → at + 4 ≤ length old → a ≡ pasted old at (digits 2 h) → b ≡ pasted a (at + 2) (digits 2 (n - h * 100)) → b ≡ pasted old at (digits 4 n)
+put-year old a b at n h e l p q =
+    then old (digits 2 h) (digits 2 (n - h * 100)) at (at + 2) p q (omega (arith, digits-length 2 h)) (omega arith)
+    ∙ ap (pasted old at) (year-digits n h e)
 
 -- ---- dates
 pub put-two : (old a b : List ℕ) (n at : ℕ) (o : Ordinal) → ordinalOn n ≡ o → at + 8 ≤ length old → a ≡ pasted old at (digits 4 (o .year)) → b ≡ pasted a (at + 4) (lead 45 3 (o .day)) → b ≡ pasted old at (dayText true n)

@@ -369,7 +369,7 @@ fn put_ordinal(out: &mut [u8], at: usize, day: u64)
     match answer {
         OrdinalAnswer::Refused(_) => {}
         OrdinalAnswer::Done(o) => {
-            octets::put_decimal(out, at, 4, o.year);
+            put_year(out, at, o.year);
             put_lead(out, at + 4, 45, 3, o.day);
         }
     }
@@ -384,7 +384,7 @@ fn put_date(out: &mut [u8], at: usize, day: u64)
     match answer {
         DateAnswer::Refused(_) => {}
         DateAnswer::Done(d) => {
-            octets::put_decimal(out, at, 4, d.year);
+            put_year(out, at, d.year);
             put_pair(out, at + 4, 45, d.month);
             put_pair(out, at + 7, 45, d.day);
         }
@@ -429,15 +429,33 @@ fn put_zone(out: &mut [u8], at: usize, zone: bool)
     }
 }
 
+// Puts the four digits of a year.
+fn put_year(out: &mut [u8], at: usize, year: u64)
+    requires { ⌜ (year ≤ 9999) × (at + 4 ≤ length (now out)) ⌝ }
+    ensures { λ _. ⌜ now (out .exit) ≡ pasted (now (out .entry)) at (digits 4 year) ⌝ }
+{
+    let hundreds = year / 100;
+    put_two_digits(out, at, hundreds);
+    put_two_digits(out, at + 2, year - hundreds * 100);
+}
+
 // Puts a character and the two digits of n.
 fn put_pair(out: &mut [u8], at: usize, c: u8, n: u64)
     requires { ⌜ (n < 100) × (at + 3 ≤ length (now out)) ⌝ }
     ensures { λ _. ⌜ now (out .exit) ≡ pasted (now (out .entry)) at (lead c 2 n) ⌝ }
 {
-    let two = n as u8;
     out[at] = c;
-    out[at + 1] = 48 + two / 10;
-    out[at + 2] = 48 + two % 10;
+    put_two_digits(out, at + 1, n);
+}
+
+// Puts the two digits of n.
+fn put_two_digits(out: &mut [u8], at: usize, n: u64)
+    requires { ⌜ (n < 100) × (at + 2 ≤ length (now out)) ⌝ }
+    ensures { λ _. ⌜ now (out .exit) ≡ pasted (now (out .entry)) at (digits 2 n) ⌝ }
+{
+    let two = n as u8;
+    out[at] = 48 + two / 10;
+    out[at + 1] = 48 + two % 10;
 }
 
 // Puts a character and the last w digits of n.

@@ -8,7 +8,7 @@ use Rattle.base.proofs.Ladders.{never, done-is}
 use Rattle.calendar.specs.Gregorian.{ordinalOn, dateIn, dateAt}
 use Rattle.calendar.specs.Answers.{saysDate}
 use Rattle.calendar.proofs.Promises.{date-at-done, date-fields}
-use Rattle.ascii.proofs.Texts.{put-digits, put-three}
+use Rattle.ascii.proofs.Texts.{put-three}
 use Rattle.ascii.proofs.put_date.Statement.{statement}
 use Rattle.ascii.proofs.put_date.Tie as tie
 
@@ -25,11 +25,11 @@ enum-known-answer c = search needs
 told : (c : tie.After-answer) → dateAt (c .before .before .before .before .args .day) ≡ done (c .answer .given .0 .0)
 told c = sym (c .before .before .date-at .ensures) ∙ ap saysDate (c .answer .given .1)
 
-fields : (c : tie.After-answer) → (c .answer .given .0 .0 .month ≤ 12) × (c .answer .given .0 .0 .day ≤ 31)
+fields : (c : tie.After-answer) → (c .answer .given .0 .0 .year ≤ 9999) × (c .answer .given .0 .0 .month ≤ 12) × (c .answer .given .0 .0 .day ≤ 31)
 fields c = omega (arith, date-fields _ _ (told c))
 
-put-decimal-requires : tie.Need-put-decimal-requires
-put-decimal-requires c κs = search needs
+put-year-requires : tie.Need-put-year-requires
+put-year-requires c κs = omega (arith, fields (c .before .before))
 
 add-put-pair : tie.Need-add-put-pair
 add-put-pair c = search needs
@@ -62,7 +62,7 @@ returns-2 c =
     let a = b .before .before .args in
     let t = k .answer .given .0 .0 in
     let e = done-is (dateIn (ordinalOn (a .day))) t (sym (date-at-done (a .day) (omega arith)) ∙ told k) in
-    put-three (a .out .now) _ _ _ (a .day) (a .at) t e (omega arith) (put-digits (a .out .now) (a .at) 4 (t .year) (omega arith) (p .put-decimal .ensures)) (q .put-pair .ensures) (r .put-pair2 .ensures)
+    put-three (a .out .now) _ _ _ (a .day) (a .at) t e (omega arith) (p .put-year .ensures) (q .put-pair .ensures) (r .put-pair2 .ensures)
 
 pub put-date-spec : {M : Type 1} → statement M
 put-date-spec =
@@ -71,7 +71,7 @@ put-date-spec =
     date-at-requires
     enum-told
     enum-known-answer
-    put-decimal-requires
+    put-year-requires
     add-put-pair
     put-pair-requires
     add-put-pair-2

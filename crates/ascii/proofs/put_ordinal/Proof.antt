@@ -1,12 +1,13 @@
 -- `ascii::put_ordinal` meets its contract.
-use mathlib.Core.Path.{sym, ap, _∙_}
+use mathlib.Core.Path.{_≡_, sym, ap, _∙_}
 use native.Mathlib.Omega.{arith}
 use borrow.Author.Needs.{needs}
+use Rattle.base.specs.Outcome.{done}
 use Rattle.base.proofs.Ladders.{never, done-is}
-use Rattle.calendar.specs.Gregorian.{ordinalOn}
+use Rattle.calendar.specs.Gregorian.{ordinalOn, ordinalAt}
 use Rattle.calendar.specs.Answers.{saysOrdinal}
-use Rattle.calendar.proofs.Promises.{ordinal-at-done}
-use Rattle.ascii.proofs.Texts.{put-digits, put-two}
+use Rattle.calendar.proofs.Promises.{ordinal-at-done, ordinal-fields}
+use Rattle.ascii.proofs.Texts.{put-two}
 use Rattle.ascii.proofs.put_ordinal.Statement.{statement}
 use Rattle.ascii.proofs.put_ordinal.Tie as tie
 
@@ -19,8 +20,12 @@ enum-told c = search needs
 enum-known-answer : tie.Need-enum-known-answer
 enum-known-answer c = search needs
 
-put-decimal-requires : tie.Need-put-decimal-requires
-put-decimal-requires c κs = search needs
+-- the day that was told
+told : (c : tie.After-answer) → ordinalAt (c .before .before .before .before .args .day) ≡ done (c .answer .given .0 .0)
+told c = sym (c .before .before .ordinal-at .ensures) ∙ ap saysOrdinal (c .answer .given .1)
+
+put-year-requires : tie.Need-put-year-requires
+put-year-requires c κs = omega (arith, ordinal-fields _ _ (told (c .before .before)))
 
 add-put-lead : tie.Need-add-put-lead
 add-put-lead c = search needs
@@ -45,8 +50,8 @@ returns-2 c =
     let b = k .before .before in
     let a = b .before .before .args in
     let o = k .answer .given .0 .0 in
-    let e = done-is (ordinalOn (a .day)) o (sym (ordinal-at-done (a .day) (omega arith)) ∙ sym (b .ordinal-at .ensures) ∙ ap saysOrdinal (k .answer .given .1)) in
-    put-two (a .out .now) _ _ (a .day) (a .at) o e (omega arith) (put-digits (a .out .now) (a .at) 4 (o .year) (omega arith) (p .put-decimal .ensures)) (q .put-lead .ensures)
+    let e = done-is (ordinalOn (a .day)) o (sym (ordinal-at-done (a .day) (omega arith)) ∙ told k) in
+    put-two (a .out .now) _ _ (a .day) (a .at) o e (omega arith) (p .put-year .ensures) (q .put-lead .ensures)
 
 pub put-ordinal-spec : {M : Type 1} → statement M
 put-ordinal-spec =
@@ -55,7 +60,7 @@ put-ordinal-spec =
     ordinal-at-requires
     enum-told
     enum-known-answer
-    put-decimal-requires
+    put-year-requires
     add-put-lead
     put-lead-requires
     returns

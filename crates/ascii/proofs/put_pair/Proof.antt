@@ -1,52 +1,32 @@
 -- `ascii::put_pair` meets its contract.
+use mathlib.Core.Path.{_∙_}
 use native.Mathlib.Omega.{arith}
 use lib.ListN.{length-set}
 use borrow.Author.Needs.{needs}
-use Rattle.ascii.proofs.Texts.{put-pair}
+use Rattle.octets.specs.Places.{digits}
+use Rattle.octets.proofs.Pastes.{paste-cons}
 use Rattle.ascii.proofs.put_pair.Statement.{statement}
 use Rattle.ascii.proofs.put_pair.Tie as tie
-
-cast-two : tie.Need-cast-two
-cast-two c = search needs
 
 slice-write-out : tie.Need-slice-write-out
 slice-write-out c = search needs
 
-add-out : tie.Need-add-out
-add-out c = search needs
+add-put-two-digits : tie.Need-add-put-two-digits
+add-put-two-digits c = search needs
 
-add-out-2 : tie.Need-add-out-2
-add-out-2 c = search needs
-
-slice-write-out-2 : tie.Need-slice-write-out-2
-slice-write-out-2 c = simp length-set (omega arith)
-
-add-out-3 : tie.Need-add-out-3
-add-out-3 c = search needs
-
-add-out-4 : tie.Need-add-out-4
-add-out-4 c = search needs
-
-slice-write-out-3 : tie.Need-slice-write-out-3
-slice-write-out-3 c = simp length-set (omega arith)
+put-two-digits-requires : tie.Need-put-two-digits-requires
+put-two-digits-requires c κs = simp length-set (search needs)
 
 same-length : tie.Need-same-length
-same-length c = search needs
+same-length c = c .before .before .put-two-digits .kept .0 ∙ simp length-set
 
 returns : tie.Need-returns
-returns c = let a = c .args in put-pair (a .out .now) (a .at) (a .c) (a .n) (omega arith) (omega arith)
+returns c =
+    let p = c .before .before in
+    let a = p .before .before .before .args in
+    p .put-two-digits .ensures ∙ paste-cons (a .out .now) (a .at) (a .c) (digits 2 (a .n)) (omega arith)
 
 pub put-pair-spec : {M : Type 1} → statement M
 put-pair-spec =
     tie.close
-    (tie.spec
-    cast-two
-    slice-write-out
-    add-out
-    add-out-2
-    slice-write-out-2
-    add-out-3
-    add-out-4
-    slice-write-out-3
-    same-length
-    returns)
+    (tie.spec slice-write-out add-put-two-digits put-two-digits-requires same-length returns)
