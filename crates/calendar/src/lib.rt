@@ -160,8 +160,11 @@ pub fn ordinal_at(index: u64) -> OrdinalAnswer
 pub fn is_date(year: u64, month: u64, day: u64) -> bool
     ensures { λ r. ⌜ r ≡ isDate year month day ⌝ }
 {
+    if !is_year(year) {
+        return false;
+    }
     let of_month = month_length(year, month);
-    is_year(year) & (1 <= day) & (day <= of_month)
+    (1 <= day) & (day <= of_month)
 }
 
 // Whether the calendar has a day of a year.
