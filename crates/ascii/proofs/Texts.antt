@@ -2,8 +2,9 @@
 use mathlib.Core.Path.{_≡_, refl, sym, ap, _∙_}
 use mathlib.Core.Bool.{Bool, true, false}
 use mathlib.Core.List.{List, [], _∷_, _++_, append-assoc}
-use Prim.Native.Nat.{ℕ, zero, suc, _+_, _-_, _*_, _/_, _%_, _<_, _≤_}
+use Prim.Native.Nat.{ℕ, zero, suc, _+_, _-_, _*_, _/_, _%_, _^_, _<_, _≤_}
 use native.Mathlib.Omega.{arith}
+use lib.Dec.{lit<}
 use lib.ListN.{length, set, length-set, length-append}
 use borrow.Author.Tests.{ne-eqb, le-leb, lt-leb}
 use Rattle.base.specs.Outcome.{Outcome, done, refused, andThen}
@@ -11,7 +12,7 @@ use Rattle.base.proofs.Ladders.{need-yes, need-no}
 use Rattle.scale.specs.Time.{Time, isRecord}
 use Rattle.octets.specs.Places.{digitOf, digits}
 use Rattle.octets.specs.Stores.{pasted, Stored}
-use Rattle.octets.proofs.Places.{length-places}
+use Rattle.octets.proofs.Places.{length-places, places-append}
 use Rattle.octets.proofs.Pastes.{paste-none, paste-cons, paste-one, stored, then}
 use Rattle.calendar.specs.Gregorian.{ordinalOn, dateIn}
 use Rattle.calendar.specs.declared.Ordinal.{Ordinal}
@@ -68,11 +69,8 @@ put-two-digits old at n l h =
 
 year-digits : (n h : ℕ) → h ≡ n / 100 → digits 2 h ++ digits 2 (n - h * 100) ≡ digits 4 n
 year-digits n h e =
-    let a : h / 10 % 10 ≡ n / 10 / 10 / 10 % 10 = omega arith in
-    let b : h % 10 ≡ n / 10 / 10 % 10 = omega arith in
-    let c : (n - h * 100) / 10 % 10 ≡ n / 10 % 10 = omega arith in
-    let d : (n - h * 100) % 10 ≡ n % 10 = omega arith in
-    rw (a, b, c, d)
+    let z : h * 10 ^ 2 + (n - h * 100) ≡ n = omega arith in
+    sym (places-append 10 digitOf (lit< tt) 2 2 h (n - h * 100) (omega arith)) ∙ ap (digits 4) z
 
 pub put-year : (old a b : List ℕ) (at n h : ℕ) → h ≡ n / 100 → at + 4 ≤ length old → a ≡ pasted old at (digits 2 h) → b ≡ pasted a (at + 2) (digits 2 (n - h * 100)) → b ≡ pasted old at (digits 4 n)
 put-year old a b at n h e l p q =

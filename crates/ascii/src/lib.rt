@@ -412,6 +412,7 @@ fn put_fraction(out: &mut [u8], at: usize, d: usize, part: u64) -> usize
         return at;
     }
     if d == 3 {
+        // the same by a width that the compiler knows
         put_lead(out, at, 46, 3, part);
         return at + 4;
     }

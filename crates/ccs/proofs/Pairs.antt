@@ -1,9 +1,8 @@
 -- Runs of decimal pairs: two neighbouring fields are one run, read and written, over any widths.
 use mathlib.Core.Path.{_≡_, refl, sym, ap, _∙_}
 use mathlib.Core.Bool.{Bool, true, false, cond, _&&_}
-use mathlib.Core.List.{List, [], _∷_, _++_, append-assoc, append-nil}
-use Prim.Native.Nat.{ℕ, zero, suc, _+_, _*_, _/_, _%_, _^_, _<_, _≤_}
-use native.Mathlib.Nat.{add-zero, add-suc, pow-zero, pow-suc, mul-one, mul-assoc, mod-lt}
+use mathlib.Core.List.{List, _++_}
+use Prim.Native.Nat.{ℕ, _+_, _*_, _/_, _%_, _^_, _<_, _≤_}
 use native.Mathlib.Omega.{arith}
 use borrow.Author.Tests.{le-leb}
 use lib.Arith.{digits-div, digits-mod}
@@ -17,7 +16,7 @@ use Rattle.octets.specs.Counts.{countOf, bcdAt}
 use Rattle.octets.specs.Writes.{saysCounted}
 use Rattle.octets.specs.declared.Counted.{Counted}
 use Rattle.octets.specs.declared.Counted.the-variants.{Done, Bad, Out}
-use Rattle.octets.proofs.Places.{number-split, good-split, number-lt, bcd-rule}
+use Rattle.octets.proofs.Places.{number-split, good-split, places-append, number-lt, bcd-rule}
 use Rattle.octets.proofs.Counts.{told, read-lt, read-text}
 use Rattle.ccs.specs.Ccs.{pairs}
 
@@ -56,15 +55,5 @@ pub pair-told : (s : List ℕ) (at w n : ℕ) → pairs s at w ≡ done n → (n
 pair-told s at w n e = pair-read s at w n (says-done (bcdAt s at w) n e)
 
 -- ---- writing
--- a number's places in two parts
-pub places-append : (w k a b : ℕ) → b < 100 ^ k → bcd (w + k) (a * 100 ^ k + b) ≡ bcd w a ++ bcd k b
-places-append w zero a b h =
-    let z : b ≡ 0 = omega (arith, rw pow-zero at h) in
-    let e : a * 100 ^ zero + b ≡ a = rw (pow-zero, mul-one, z, add-zero) in
-    rw (add-zero w, e) (sym (append-nil (bcd w a)))
-places-append w (suc k) a b h =
-    let e : a * 100 ^ suc k + b ≡ (a * 100 ^ k + b / 100) * 100 + b % 100 = rw pow-suc (omega (arith, mul-assoc a (100 ^ k) 100)) in
-    let m : b % 100 < 100 = mod-lt b (lit< tt) in
-    let l : b / 100 < 100 ^ k = omega (arith, rw pow-suc at h) in
-    rw (add-suc, e, digits-div (a * 100 ^ k + b / 100) m, digits-mod (a * 100 ^ k + b / 100) m, places-append w k a (b / 100) l)
-    (append-assoc (bcd w a) (bcd k (b / 100)) (bcdElement (b % 100) ∷ []))
+pub pairs-append : (w k a b : ℕ) → b < 100 ^ k → bcd (w + k) (a * 100 ^ k + b) ≡ bcd w a ++ bcd k b
+pairs-append = places-append 100 bcdElement (lit< tt)

@@ -13,7 +13,7 @@ use Rattle.calendar.specs.declared.Ordinal.{Ordinal}
 use Rattle.clock.specs.Clock.{clockOf, minuteOf}
 use Rattle.clock.proofs.Laws.{shown}
 use Rattle.ccs.specs.Ccs.{pairs, dayAt, clockAt, ordinalText, monthText, clockText}
-use Rattle.ccs.proofs.Pairs.{split, places-append}
+use Rattle.ccs.proofs.Pairs.{split, pairs-append}
 
 -- ---- reading
 -- the day that eight digits name
@@ -72,14 +72,14 @@ module _ (s : List ℕ) (at : ℕ) where
 
 -- ---- writing
 pub ordinal-run : (o : Ordinal) → o .day < 10000 → bcd 4 (o .year * 10000 + o .day) ≡ ordinalText o
-ordinal-run o h = places-append 2 2 (o .year) (o .day) h
+ordinal-run o h = pairs-append 2 2 (o .year) (o .day) h
 
 pub month-run : (t : Date) → t .month < 100 → t .day < 100 → bcd 4 (t .year * 10000 + t .month * 100 + t .day) ≡ monthText t
 month-run t h k =
     let e : t .year * 10000 + t .month * 100 + t .day ≡ t .year * 10000 + (t .month * 100 + t .day) = omega arith in
     ap (bcd 4) e
-    ∙ places-append 2 2 (t .year) (t .month * 100 + t .day) (omega arith)
-    ∙ ap (λ (x : List ℕ). bcd 2 (t .year) ++ x) (places-append 1 1 (t .month) (t .day) k)
+    ∙ pairs-append 2 2 (t .year) (t .month * 100 + t .day) (omega arith)
+    ∙ ap (λ (x : List ℕ). bcd 2 (t .year) ++ x) (pairs-append 1 1 (t .month) (t .day) k)
 
 -- the six digits of a clock
 abbrev pub clockNumber : ℕ → ℕ → ℕ → ℕ
@@ -88,7 +88,7 @@ clockNumber h m x = h * 10000 + m * 100 + x
 pub clock-pairs : (h m x : ℕ) → m < 100 → x < 100 → bcd 3 (clockNumber h m x) ≡ bcd 1 h ++ (bcd 1 m ++ bcd 1 x)
 clock-pairs h m x l k =
     let e : h * 10000 + m * 100 + x ≡ h * 10000 + (m * 100 + x) = omega arith in
-    ap (bcd 3) e ∙ places-append 1 2 h (m * 100 + x) (omega arith) ∙ ap (λ (y : List ℕ). bcd 1 h ++ y) (places-append 1 1 m x k)
+    ap (bcd 3) e ∙ pairs-append 1 2 h (m * 100 + x) (omega arith) ∙ ap (λ (y : List ℕ). bcd 1 h ++ y) (pairs-append 1 1 m x k)
 
 abbrev pub digitsOf : ℕ → ℕ
 digitsOf n = clockNumber (minuteOf n / 60) (minuteOf n % 60) (n - minuteOf n * 60)

@@ -1,9 +1,9 @@
 -- The laws of numbers in places, each once over the width, the base and the kind of element.
 use mathlib.Core.Path.{_≡_, refl, sym, ap, _∙_}
 use mathlib.Core.Bool.{Bool, true, false, _&&_}
-use mathlib.Core.List.{List, [], _∷_, _++_}
+use mathlib.Core.List.{List, [], _∷_, _++_, append-assoc, append-nil}
 use Prim.Native.Nat.{ℕ, zero, suc, _+_, _*_, _/_, _%_, _^_, _<_, _≤_}
-use native.Mathlib.Nat.{not-suc-le-zero, add-zero, add-suc, mul-one, mul-assoc, add-mul, add-assoc, pow-zero, pow-suc, one-le-pow, mod-lt, mod-one, mod-eq-of-lt}
+use native.Mathlib.Nat.{not-suc-le-zero, add-zero, add-suc, mul-one, mul-assoc, add-mul, add-assoc, pow-zero, pow-suc, one-le-pow, mod-lt, mod-one, mod-eq-of-lt, div-add-mod', div-lt-iff-lt-mul}
 use native.Mathlib.Omega.{arith}
 use borrow.Author.Tests.{ltb-true, ltb-false, leb-true, lt-ltb, le-leb}
 use lib.Arith.{digits-lt, digits-div, digits-mod, mod-mul}
@@ -33,6 +33,19 @@ module _ (b : ℕ) (v : ℕ → ℕ) where
 pub length-places : (b : ℕ) (p : ℕ → ℕ) (w n : ℕ) → length (places b p w n) ≡ w
 length-places b p zero n = refl
 length-places b p (suc w) n = simp length-append (omega (arith, length-places b p w (n / b)))
+
+-- a number's places in two parts
+pub places-append : (b : ℕ) (p : ℕ → ℕ) → 0 < b → (w k a c : ℕ) → c < b ^ k → places b p (w + k) (a * b ^ k + c) ≡ places b p w a ++ places b p k c
+places-append b p s w zero a c h =
+    let z : c ≡ 0 = omega (arith, rw pow-zero at h) in
+    let e : a * b ^ zero + c ≡ a = rw (pow-zero, mul-one, z, add-zero) in
+    rw (add-zero w, e) (sym (append-nil (places b p w a)))
+places-append b p s w (suc k) a c h =
+    let e : a * b ^ suc k + c ≡ (a * b ^ k + c / b) * b + c % b = rw (pow-suc, add-mul, mul-assoc, add-assoc, div-add-mod') in
+    let m : c % b < b = mod-lt c s in
+    let l : c / b < b ^ k = div-lt-iff-lt-mul s .1 (rw pow-suc at h) in
+    rw (add-suc, e, digits-div (a * b ^ k + c / b) m, digits-mod (a * b ^ k + c / b) m, places-append b p s w k a (c / b) l)
+    (append-assoc (places b p w a) (places b p k (c / b)) (p (c % b) ∷ []))
 
 module _ (ok : ℕ → Bool) where
   pub good-append : (s t : List ℕ) (w : ℕ) → w ≤ length s → allGood ok (s ++ t) w ≡ allGood ok s w
