@@ -1,10 +1,11 @@
 -- A ladder of tests, taken apart: by the value that it ends in, or by the refusal.
 use mathlib.Core.Path.{_≡_, refl, sym, ap, _∙_}
-use mathlib.Core.Bool.{Bool, true, false}
+use mathlib.Core.Bool.{Bool, true, false, _&&_}
 use mathlib.Core.Logic.{_⊎_, inl, inr}
 use Prim.Native.Nat.{ℕ}
 use native.Mathlib.Omega.{arith}
 use Rattle.base.specs.Outcome.{Outcome, done, refused, need, andThen, given}
+use Rattle.base.proofs.Bools.{and-left, and-right}
 
 -- a refusal is no value
 pub never : {A X : Type 0} (n : ℕ) (b : A) → _≡_ {A = Outcome A} (refused n) (done b) → X
@@ -23,10 +24,18 @@ need-yes n x h = rw h
 pub need-no : {A : Type 0} {t : Bool} (n : ℕ) (x : Outcome A) → t ≡ false → need t n x ≡ refused n
 need-no n x h = rw h
 
+-- two rungs, known together
+pub needs-yes : {A : Type 0} (a b : Bool) (m n : ℕ) (x : Outcome A) → (a && b) ≡ true → need a m (need b n x) ≡ x
+needs-yes a b m n x h = need-yes m _ (and-left a b h) ∙ need-yes n x (and-right a b h)
+
 -- a ladder that ends in a value passed each rung
 pub need-done : {A : Type 0} (t : Bool) (n : ℕ) (x : Outcome A) (b : A) → need t n x ≡ done b → (t ≡ true) × (x ≡ done b)
 need-done true n x b h = (refl, h)
 need-done false n x b h = never n b h
+
+pub needs-done : {A : Type 0} (a b : Bool) (m n : ℕ) (x : Outcome A) (v : A) → need a m (need b n x) ≡ done v → ((a && b) ≡ true) × (x ≡ done v)
+needs-done true b m n x v h = need-done b n x v h
+needs-done false b m n x v h = never m v h
 
 pub then-done : {A B : Type 0} (x : Outcome A) (k : A → Outcome B) (b : B) → andThen x k ≡ done b → (a : A) × ((x ≡ done a) × (k a ≡ done b))
 then-done (done a) k b h = (a, (refl, h))

@@ -11,8 +11,8 @@ use lib.IntN.{ℤ, pos, negℤ, _+ℤ_}
 use lib.ListN.{length}
 use Rattle.base.specs.Parts.{within, at}
 use Rattle.base.specs.Outcome.{refused, given}
-use Rattle.base.proofs.Bools.{and-true, cond-yes, cond-no}
-use Rattle.base.proofs.Ladders.{need-yes, need-no}
+use Rattle.base.proofs.Bools.{and-left, and-right, and-true, cond-yes, cond-no}
+use Rattle.base.proofs.Ladders.{need-yes, need-no, needs-yes}
 use Rattle.base.proofs.Signed.{same, sum, within-low, within-high, neg-plus, neg-minus, apart}
 use Rattle.octets.specs.Places.{octetValue, octetGood}
 use Rattle.octets.specs.Counts.{countAt}
@@ -21,7 +21,7 @@ use Rattle.octets.proofs.Places.{octet-rule}
 use Rattle.octets.proofs.Counts.{Read, told, read-lt}
 use Rattle.leap.specs.Table.{Table}
 use Rattle.leap.specs.Utc.{secondOfUtc}
-use Rattle.cds.specs.Cds.{isLayout, width, parts, perMillisecond, unit, fraction, timed, fieldBy}
+use Rattle.cds.specs.Cds.{isEpochDay, isWidth, isLayout, width, parts, perMillisecond, unit, fraction, timed, fieldBy}
 use Rattle.cds.specs.Inner.{Good}
 use Rattle.cds.specs.declared.Layout.{Layout}
 
@@ -71,31 +71,44 @@ part-is w e = go (eqb w 0) (eqb w 2) (eqb w 4) refl refl refl e
     go false false true p q r e = let z : w ≡ 4 = eqb-true w 4 r in rw z (lit≤ tt, lit≤ tt)
     go false false false p q r e = absurd (false≢true e)
 
+pub widths : (l : Layout) → isWidth l ≡ true → (l .day ≤ 3) × (l .part ≤ 4) × (parts (l .part) ≤ 256 ^ l .part)
+unfolding isWidth
+widths l e =
+    let (d, p) = and-true (eqb (l .day) 2 || eqb (l .day) 3) _ e in
+    let (w, fit) = part-is (l .part) p in
+    (day-is (l .day) d, w, fit)
+
+pub layout-width : (l : Layout) → isLayout l ≡ true → isWidth l ≡ true
+unfolding isLayout
+layout-width l e = and-left (isWidth l) _ e
+
 pub layout-good : (l : Layout) → isLayout l ≡ true → Good l
 unfolding isLayout
 layout-good l e =
     let lo = negℤ (pos (2 ^ 24)) in
     let hi = pos (2 ^ 24 - 1) in
-    let (a, p) = and-true (within lo hi (l .epoch) && (eqb (l .day) 2 || eqb (l .day) 3)) _ e in
-    let (w, d) = and-true (within lo hi (l .epoch)) _ a in
+    let (day, part, fit) = widths l (layout-width l e) in
+    let w = and-right (isWidth l) _ e in
     let low = within-low lo hi (l .epoch) w in
     let high = within-high lo hi (l .epoch) w in
-    let q = part-is (l .part) p in
     record {
       low = omega (arith, neg-plus (pos (2 ^ 24)), neg-minus (pos (2 ^ 24)), apart (l .epoch));
       high = omega (arith, apart (l .epoch));
-      day = day-is (l .day) d;
-      part = q .0;
-      fit = q .1;
+      day = day;
+      part = part;
+      fit = fit;
     }
 
-pub width-is : (l : Layout) → isLayout l ≡ true → width l ≡ l .day + 4 + l .part
+pub width-some : (l : Layout) → isWidth l ≡ true → width l ≡ l .day + 4 + l .part
 unfolding width
-width-is l e = cond-yes _ _ e
+width-some l e = cond-yes _ _ e
 
-pub width-none : (l : Layout) → isLayout l ≡ false → width l ≡ 0
+pub width-none : (l : Layout) → isWidth l ≡ false → width l ≡ 0
 unfolding width
 width-none l e = cond-no _ _ e
+
+pub width-is : (l : Layout) → isLayout l ≡ true → width l ≡ l .day + 4 + l .part
+width-is l e = width-some l (layout-width l e)
 
 -- ---- the day that many days from another
 pub day-after : (B n d : ℕ) (e z : ℤ) → at B n e → at B (n + d) z → e +ℤ pos d ≡ z
@@ -126,15 +139,19 @@ module _ (t : Table) (l : Layout) (d m p : ℕ) where
   timed-is h k = need-yes 4 _ (le-leb m 86400999 h) ∙ need-yes 4 _ (lt-ltb p (parts (l .part)) k)
 
 module _ (t : Table) (s : List ℕ) (at : ℕ) (l : Layout) where
-  pub field-none : isLayout l ≡ false → fieldBy t s at l ≡ refused 3
+  pub field-none : isWidth l ≡ false → fieldBy t s at l ≡ refused 3
   unfolding fieldBy
   field-none e = need-no 3 _ e
 
+  pub field-epoch : isWidth l ≡ true → isEpochDay (l .epoch) ≡ false → fieldBy t s at l ≡ refused 7
+  unfolding fieldBy
+  field-epoch w e = need-yes 3 _ w ∙ need-no 7 _ e
+
   module _ (e : isLayout l ≡ true) where
     pub field-short : length s < at + (l .day + 4 + l .part) → fieldBy t s at l ≡ refused 1
-    unfolding fieldBy
-    field-short h = need-yes 3 _ e ∙ need-no {t = leb (at + width l) (length s)} 1 _ (rw (width-is l e) (lt-leb _ _ h))
+    unfolding fieldBy isLayout
+    field-short h = needs-yes (isWidth l) _ 3 7 _ e ∙ need-no {t = leb (at + width l) (length s)} 1 _ (rw (width-is l e) (lt-leb _ _ h))
 
     pub field-is : (d m p : ℕ) → at + (l .day + 4 + l .part) ≤ length s → countAt s at (l .day) ≡ Done d → countAt s (at + l .day) 4 ≡ Done m → countAt s (at + l .day + 4) (l .part) ≡ Done p → fieldBy t s at l ≡ timed t l d m p
-    unfolding fieldBy
-    field-is d m p h a b c = need-yes 3 _ e ∙ need-yes {t = leb (at + width l) (length s)} 1 _ (rw (width-is l e) (le-leb _ _ h)) ∙ rw (a, b, c)
+    unfolding fieldBy isLayout
+    field-is d m p h a b c = needs-yes (isWidth l) _ 3 7 _ e ∙ need-yes {t = leb (at + width l) (length s)} 1 _ (rw (width-is l e) (le-leb _ _ h)) ∙ rw (a, b, c)

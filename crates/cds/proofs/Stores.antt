@@ -13,7 +13,7 @@ use Rattle.base.specs.declared.Seat.the-variants.{In, Out}
 use Rattle.base.specs.declared.Refusal.the-variants.{Room}
 use Rattle.base.specs.Outcome.{done, refused}
 use Rattle.base.proofs.Bools.{cond-yes, cond-no}
-use Rattle.base.proofs.Ladders.{need-yes, need-no}
+use Rattle.base.proofs.Ladders.{need-yes, need-no, needs-yes}
 use Rattle.base.proofs.Signed.{same, sum, difference, apart, abs-is, within-low, within-high, within-yes, within-under, within-over}
 use Rattle.scale.specs.Time.{Time, isRecord}
 use Rattle.octets.specs.Places.{octetOf, octets}
@@ -26,7 +26,7 @@ use Rattle.octets.proofs.Writes.{refuses, room-in, room-out, fills}
 use Rattle.leap.specs.Table.{Table}
 use Rattle.leap.specs.Utc.{utcOfSecond}
 use Rattle.leap.specs.declared.Utc.{Utc}
-use Rattle.cds.specs.Cds.{isLayout, held, laid, coded, bytesOn, bytesBy}
+use Rattle.cds.specs.Cds.{isEpochDay, isWidth, isLayout, held, laid, coded, bytesOn, bytesBy}
 use Rattle.cds.specs.Inner.{seatIn}
 use Rattle.cds.specs.declared.Layout.{Layout}
 
@@ -145,15 +145,19 @@ module _ (t : Table) (l : Layout) (r : Time) where
   bytes-invalid e = need-no 7 _ e
 
   module _ (v : isRecord r ≡ true) where
-    pub bytes-none : isLayout l ≡ false → bytesBy t l r ≡ refused 3
+    pub bytes-none : isWidth l ≡ false → bytesBy t l r ≡ refused 3
     unfolding bytesBy
     bytes-none e = need-yes 7 _ v ∙ need-no 3 _ e
 
+    pub bytes-epoch : isWidth l ≡ true → isEpochDay (l .epoch) ≡ false → bytesBy t l r ≡ refused 7
+    unfolding bytesBy
+    bytes-epoch w e = need-yes 7 _ v ∙ need-yes 3 _ w ∙ need-no 7 _ e
+
     module _ (e : isLayout l ≡ true) where
       pub bytes-uncovered : (n : ℕ) → utcOfSecond t (r .sec) ≡ refused n → bytesBy t l r ≡ refused n
-      unfolding bytesBy
-      bytes-uncovered n h = need-yes 7 _ v ∙ need-yes 3 _ e ∙ rw h
+      unfolding bytesBy isLayout
+      bytes-uncovered n h = need-yes 7 _ v ∙ needs-yes (isWidth l) _ 3 7 _ e ∙ rw h
 
       pub bytes-on : (u : Utc) → utcOfSecond t (r .sec) ≡ done u → bytesBy t l r ≡ bytesOn l u (r .ticks)
-      unfolding bytesBy
-      bytes-on u h = need-yes 7 _ v ∙ need-yes 3 _ e ∙ rw h
+      unfolding bytesBy isLayout
+      bytes-on u h = need-yes 7 _ v ∙ needs-yes (isWidth l) _ 3 7 _ e ∙ rw h

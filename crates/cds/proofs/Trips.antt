@@ -10,7 +10,7 @@ use lib.IntN.{pos, natAbs, _+ℤ_, _-ℤ_}
 use lib.ListN.{length, take, drop, length-append, length-drop}
 use lib.Seq.{take-add, drop-drop, drop-at}
 use Rattle.base.specs.Outcome.{done, given}
-use Rattle.base.proofs.Ladders.{never, done-is, need-done, then-done, given-done}
+use Rattle.base.proofs.Ladders.{never, done-is, need-done, needs-done, then-done, given-done}
 use Rattle.scale.specs.Time.{Time, perSecond, isRecord}
 use Rattle.scale.proofs.Laws.{good-within}
 use Rattle.octets.specs.Places.{octetOf, octets}
@@ -24,7 +24,7 @@ use Rattle.leap.specs.Table.{Table, good}
 use Rattle.leap.specs.Utc.{utcOfSecond, secondOfUtc}
 use Rattle.leap.specs.declared.Utc.{Utc}
 use Rattle.leap.proofs.Promises.{utc-then-second, utc-low, second-then-utc}
-use Rattle.cds.specs.Cds.{isLayout, width, parts, perMillisecond, fraction, remainder, timed, fieldBy, held, laid, coded, bytesOn, bytesBy}
+use Rattle.cds.specs.Cds.{isEpochDay, isWidth, isLayout, width, parts, perMillisecond, fraction, remainder, timed, fieldBy, held, laid, coded, bytesOn, bytesBy}
 use Rattle.cds.specs.declared.Layout.{Layout}
 use Rattle.cds.proofs.Laws.{layout-good, width-is, count-told, count-lt, timed-is, field-is}
 use Rattle.cds.proofs.Ticks.{fraction-back, remainder-lt}
@@ -76,9 +76,9 @@ texts s at l d m p a b c =
     rw (take-add (l .day + 4) (l .part) (drop at s), take-add (l .day) 4 (drop at s), drop-drop (l .day) at s, drop-drop (l .day + 4) at s, q, read-text (count-told s at (l .day) d a) octet-rule, read-text (count-told s (at + l .day) 4 m b) octet-rule, read-text (count-told s (at + l .day + 4) (l .part) p c) octet-rule)
 
 pub found : (t : Table) (s : List ℕ) (at : ℕ) (l : Layout) (x : Time) → fieldBy t s at l ≡ done x → Found t s at l x
-unfolding fieldBy
+unfolding fieldBy isLayout
 found t s at l x e =
-    let (a, f) = need-done (isLayout l) 3 _ x e in
+    let (a, f) = needs-done (isWidth l) (isEpochDay (l .epoch)) 3 7 _ x e in
     let (b, g) = need-done (leb (at + width l) (length s)) 1 _ x f in
     let (d, (i, h)) = then-done (saysCounted (countAt s at (l .day))) _ x g in
     let (m, (j, k)) = then-done (saysCounted (countAt s (at + l .day) 4)) _ x h in
@@ -130,10 +130,10 @@ pub record Given (t : Table) (l : Layout) (r : Time) (code : List ℕ) : Type 0 
   pub text : coded l utc (r .ticks) ≡ code
 
 pub told-bytes : (t : Table) (l : Layout) (r : Time) (code : List ℕ) → bytesBy t l r ≡ done code → Given t l r code
-unfolding bytesBy bytesOn
+unfolding bytesBy bytesOn isLayout
 told-bytes t l r code e =
     let (a, f) = need-done (isRecord r) 7 _ code e in
-    let (b, g) = need-done (isLayout l) 3 _ code f in
+    let (b, g) = needs-done (isWidth l) (isEpochDay (l .epoch)) 3 7 _ code f in
     let (u, (h, k)) = then-done (utcOfSecond t (r .sec)) _ code g in
     let (i, j) = need-done (held l (u .day)) 7 (done (coded l u (r .ticks))) code k in
     record { valid = a; layout = b; utc = u; reading = h; inside = i; text = done-is _ code j }

@@ -18,16 +18,24 @@ use Rattle.leap.specs.Utc.{utcOfSecond, secondOfUtc}
 use Rattle.leap.specs.declared.Utc.{Utc}
 use Rattle.cds.specs.declared.Layout.{Layout}
 
--- "0 epoch 1958, 1 caller's epoch day (-2^24 to 2^24 - 1) .. 0 day in 16 bits, 1 in 24 .. none, .. microsecond of millisecond (16 bits ..), .. picosecond of millisecond (32 bits ..)"
+-- "caller's epoch day (-2^24 to 2^24 - 1)"
+abbrev pub isEpochDay : ℤ → Bool
+isEpochDay e = within (negℤ (pos (2 ^ 24))) (pos (2 ^ 24 - 1)) e
+
+-- "0 day in 16 bits, 1 in 24 .. none, .. microsecond of millisecond (16 bits ..), .. picosecond of millisecond (32 bits ..)"
+unfoldable pub isWidth : Layout → Bool
+isWidth l = (eqb (l .day) 2 || eqb (l .day) 3) && (eqb (l .part) 0 || eqb (l .part) 2 || eqb (l .part) 4)
+
 unfoldable pub isLayout : Layout → Bool
-isLayout l =
-    within (negℤ (pos (2 ^ 24))) (pos (2 ^ 24 - 1)) (l .epoch)
-    && (eqb (l .day) 2 || eqb (l .day) 3)
-    && (eqb (l .part) 0 || eqb (l .part) 2 || eqb (l .part) 4)
+isLayout l = isWidth l && isEpochDay (l .epoch)
+
+-- "3, epoch 7": octets that no P octet gives, then an invalid epoch day
+abbrev pub settled : {A : Type 0} → Layout → Outcome A → Outcome A
+settled l x = need (isWidth l) 3 (need (isEpochDay (l .epoch)) 7 x)
 
 -- "Order: day, millisecond of day (32 bits ..), remainder"
 unfoldable pub width : Layout → ℕ
-width l = cond (isLayout l) (l .day + 4 + l .part) 0
+width l = cond (isWidth l) (l .day + 4 + l .part) 0
 
 -- how many parts a millisecond has, by the octets of the remainder, and the ticks of a millisecond and of a part
 abbrev pub parts : ℕ → ℕ
@@ -51,10 +59,10 @@ timed t l d m p =
     (need (ltb p (parts (l .part))) 4
     (given (λ z. record { sec = z; ticks = fraction (l .part) m p }) (secondOfUtc t (l .epoch +ℤ pos d) (m / 1000))))
 
--- the T-field from `at` on: no layout 3, bytes that run out 1, then as above
+-- the T-field from `at` on: no layout 3, its epoch 7, bytes that run out 1, then as above
 unfoldable pub fieldBy : Table → List ℕ → ℕ → Layout → Outcome Time
 fieldBy t s at l =
-    need (isLayout l) 3
+    settled l
     (need (leb (at + width l) (length s)) 1
     (andThen (saysCounted (countAt s at (l .day))) (λ d.
     andThen (saysCounted (countAt s (at + l .day) 4)) (λ m.
@@ -93,7 +101,7 @@ bytesOn l u k = need (held l (u .day)) 7 (done (coded l u k))
 
 -- "record 7, then 2, 3, epoch 7, cover 5 (UTC codes only), target 7"
 unfoldable pub bytesBy : Table → Layout → Time → Outcome (List ℕ)
-bytesBy t l r = need (isRecord r) 7 (need (isLayout l) 3 (andThen (utcOfSecond t (r .sec)) (λ u. bytesOn l u (r .ticks))))
+bytesBy t l r = need (isRecord r) 7 (settled l (andThen (utcOfSecond t (r .sec)) (λ u. bytesOn l u (r .ticks))))
 
 abbrev pub bytesOf : Layout → Time → Outcome (List ℕ)
 bytesOf l r = bytesBy builtin l r

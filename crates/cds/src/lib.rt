@@ -19,7 +19,7 @@ ghost use Rattle.octets.specs.Counts.{countAt};
 ghost use Rattle.octets.specs.Writes.{roomed, Wrote};
 ghost use Rattle.octets.specs.declared.Counted.the-variants as Counted;
 ghost use Rattle.leap.specs.Builtin.{builtin};
-ghost use Rattle.cds.specs.Cds.{isLayout, width, parts, timed, field, laid, bytesOn, bytesOf};
+ghost use Rattle.cds.specs.Cds.{isEpochDay, isWidth, width, parts, timed, field, laid, bytesOn, bytesOf};
 ghost use Rattle.cds.specs.Inner.{Good, seatIn};
 
 // The epoch day, the octets of the day (2 or 3) and the octets of the part of a millisecond (0, 2 or 4).
@@ -33,15 +33,26 @@ pub struct Layout {
 pub fn size(l: Layout) -> usize
     ensures { λ r. ⌜ r ≡ width l ⌝ }
 {
-    if is_layout(l) { l.day + 4 + l.part } else { 0 }
+    if is_width(l) { l.day + 4 + l.part } else { 0 }
+}
+
+// Whether days can be counted from an epoch day.
+pub fn is_epoch(epoch: i64) -> bool
+    ensures { λ r. ⌜ r ≡ isEpochDay epoch ⌝ }
+{
+    base::between(-16777216, 16777215, epoch)
 }
 
 // The moment that the T-field from `at` on names.
 pub fn read(s: &[u8], at: usize, l: Layout) -> RecordAnswer
     ensures { λ r. ⌜ saysRecord r ≡ field (now (s .entry)) at l ⌝ }
 {
-    if !is_layout(l) {
+    if !is_width(l) {
         return RecordAnswer::Refused(Refusal::Unsupported);
+    }
+    let epoch = l.epoch;
+    if !is_epoch(epoch) {
+        return RecordAnswer::Refused(Refusal::Range);
     }
     let day = l.day;
     let part = l.part;
@@ -63,8 +74,12 @@ pub fn write(r: Record, l: Layout, out: &mut [u8], at: usize) -> Written
     if !r.valid() {
         return Written::Refused(Refusal::Range);
     }
-    if !is_layout(l) {
+    if !is_width(l) {
         return Written::Refused(Refusal::Unsupported);
+    }
+    let epoch = l.epoch;
+    if !is_epoch(epoch) {
+        return Written::Refused(Refusal::Range);
     }
     let sec = r.sec;
     let ticks = r.ticks;
@@ -74,17 +89,13 @@ pub fn write(r: Record, l: Layout, out: &mut [u8], at: usize) -> Written
     }
 }
 
-// Whether a layout is one of the code's.
-fn is_layout(l: Layout) -> bool
-    ensures { λ r. ⌜ r ≡ isLayout l ⌝ }
+// Whether a P octet gives so many octets.
+fn is_width(l: Layout) -> bool
+    ensures { λ r. ⌜ r ≡ isWidth l ⌝ }
 {
-    let epoch = l.epoch;
     let day = l.day;
     let part = l.part;
-    let e = base::between(-16777216, 16777215, epoch);
-    let d = (day == 2) | (day == 3);
-    let p = (part == 0) | (part == 2) | (part == 4);
-    e & d & p
+    ((day == 2) | (day == 3)) & ((part == 0) | (part == 2) | (part == 4))
 }
 
 // The number in w octets that are there: a slice's bytes are octets, so the other answers don't come.

@@ -13,8 +13,8 @@ use lib.Dec.{leb}
 use Rattle.cuc.specs.declared.Layout.{Layout as CucLayout}
 use Rattle.cds.specs.declared.Layout.{Layout as CdsLayout}
 use Rattle.ccs.specs.declared.Layout.{Layout as CcsLayout}
-use Rattle.cuc.specs.Cuc.{isLayout as isCuc, width as cucWidth}
-use Rattle.cds.specs.Cds.{isLayout as isCds, width as cdsWidth}
+use Rattle.cuc.specs.Cuc.{isWidth as isCuc, width as cucWidth}
+use Rattle.cds.specs.Cds.{isWidth as isCds, width as cdsWidth}
 use Rattle.ccs.specs.Ccs.{width as ccsWidth}
 use Rattle.cuc.proofs.Layouts as UL
 use Rattle.cds.proofs.Laws as DL
@@ -33,11 +33,11 @@ field-valid s at (Ccs l) m h = C.read-valid s at l m h
 
 -- a T-field is short
 cuc-low : (l : CucLayout) (b : Bool) → isCuc l ≡ b → cucWidth l ≤ 13
-cuc-low l true e = omega (arith, UL.width-range l e)
+cuc-low l true e = omega (arith, UL.width-some l e, UL.widths l e)
 cuc-low l false e = omega (arith, UL.width-none l e)
 
 cds-low : (l : CdsLayout) (b : Bool) → isCds l ≡ b → cdsWidth l ≤ 13
-cds-low l true e = omega (arith, DL.width-is l e, DL.layout-good l e)
+cds-low l true e = omega (arith, DL.width-some l e, DL.widths l e)
 cds-low l false e = omega (arith, DL.width-none l e)
 
 ccs-low : (l : CcsLayout) (b : Bool) → leb (l .segments) 6 ≡ b → ccsWidth l ≤ 13

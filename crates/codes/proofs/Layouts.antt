@@ -10,8 +10,8 @@ use Rattle.base.specs.Parts.{within}
 use Rattle.base.specs.Outcome.{Outcome, done, need}
 use Rattle.base.proofs.Ladders.{need-done, done-is}
 use Rattle.base.proofs.Signed.{within-yes, neg-plus, neg-minus}
-use Rattle.cuc.specs.Cuc.{isLayout as isCuc}
-use Rattle.cds.specs.Cds.{isLayout as isCds}
+use Rattle.cuc.specs.Cuc.{isEpoch, isLayout as isCuc}
+use Rattle.cds.specs.Cds.{isEpochDay, isWidth as isCdsWidth, isLayout as isCds}
 use Rattle.ccs.specs.Ccs.{isLayout as isCcs}
 use Rattle.cuc.proofs.Layouts.{layout-yes}
 use Rattle.codes.specs.declared.pfield.Layout.{Layout}
@@ -34,7 +34,7 @@ zero-in N h = within-yes (negℤ (pos N)) (pos (N - 1)) (pos 0) (omega (arith, n
 cuc-good : (o : ℕ) (e : ℤ) (l : Layout) → cucLaid o e ≡ done l → isLayoutOf l ≡ true
 unfolding cucLaid
 cuc-good o e l h =
-    let (p, q) = need-done (eqb (ident o) 1 || within (negℤ (pos (2 ^ 40))) (pos (2 ^ 40 - 1)) e) 7 _ l h in
+    let (p, q) = need-done (eqb (ident o) 1 || isEpoch e) 7 _ l h in
     subst (λ (x : Layout). isLayoutOf x ≡ true) (done-is _ l q)
     (layout-yes _ (omega arith) (omega arith) (omega arith) (epoch-in (eqb (ident o) 1) (2 ^ 40) e (zero-in (2 ^ 40) (lit< tt)) p))
 
@@ -50,10 +50,10 @@ part-in (suc (suc zero)) h = refl
 part-in (suc (suc (suc n))) h = absurd (omega arith)
 
 cds-good : (o : ℕ) (e : ℤ) (l : Layout) → cdsLaid o e ≡ done l → isLayoutOf l ≡ true
-unfolding cdsLaid isCds
+unfolding cdsLaid isCds isCdsWidth
 cds-good o e l h =
     let (s, h₁) = need-done (ltb (o % 4) 3) 3 _ l h in
-    let (p, q) = need-done (eqb (bit4 o) 0 || within (negℤ (pos (2 ^ 24))) (pos (2 ^ 24 - 1)) e) 7 _ l h₁ in
+    let (p, q) = need-done (eqb (bit4 o) 0 || isEpochDay e) 7 _ l h₁ in
     subst (λ (x : Layout). isLayoutOf x ≡ true) (done-is _ l q)
     (rw (epoch-in (eqb (bit4 o) 0) (2 ^ 24) e (zero-in (2 ^ 24) (lit< tt)) p, day-in (o / 4 % 2) (omega arith), part-in (o % 4) (ltb-true (o % 4) 3 s)))
 

@@ -63,7 +63,7 @@ fn lay_cuc(o: u8, epoch: i64) -> LayoutAnswer
             fine: fine,
         }));
     }
-    if base::between(-1099511627776, 1099511627775, epoch) {
+    if cuc::is_epoch(epoch) {
         return LayoutAnswer::Done(Layout::Cuc(cuc::Layout {
             epoch: epoch,
             coarse: coarse,
@@ -88,7 +88,7 @@ fn lay_cds(o: u8, epoch: i64) -> LayoutAnswer
             part: part,
         }));
     }
-    if base::between(-16777216, 16777215, epoch) {
+    if cds::is_epoch(epoch) {
         return LayoutAnswer::Done(Layout::Cds(cds::Layout {
             epoch: epoch,
             day: day,

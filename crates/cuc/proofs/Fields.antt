@@ -7,7 +7,7 @@ use native.Mathlib.Omega.{arith}
 use lib.ListN.{length, drop}
 use Rattle.base.specs.Outcome.{done, refused, given}
 use Rattle.base.specs.declared.Seat.the-variants.{In, Out}
-use Rattle.base.proofs.Ladders.{never, need-yes, need-no, need-done, given-done, done-is}
+use Rattle.base.proofs.Ladders.{never, need-yes, need-no, needs-yes, need-done, needs-done, given-done, done-is}
 use Rattle.scale.specs.Time.{Time, isRecord}
 use Rattle.octets.specs.Places.{octets, octetValue, octetGood}
 use Rattle.octets.specs.Counts.{countAt}
@@ -17,21 +17,25 @@ use Rattle.octets.specs.declared.Counted.the-variants.{Done, Bad}
 use Rattle.octets.specs.declared.Counted.the-variants as C
 use Rattle.octets.proofs.Places.{octet-rule}
 use Rattle.octets.proofs.Counts.{Read, told, read-lt, read-back}
-use Rattle.cuc.specs.Cuc.{isLayout, width, timeOf, field, holds, countOf, bytesOf}
+use Rattle.cuc.specs.Cuc.{isEpoch, isWidth, isLayout, width, timeOf, field, holds, countOf, bytesOf}
 use Rattle.cuc.specs.Inner.{Good, seatIn}
 use Rattle.cuc.specs.declared.Layout.{Layout}
 use Rattle.cuc.proofs.Layouts.{layout-good, width-is, width-range}
 
 -- ---- reading
 module _ (s : List ℕ) (at : ℕ) (l : Layout) where
-  pub field-unknown : isLayout l ≡ false → field s at l ≡ refused 3
+  pub field-unknown : isWidth l ≡ false → field s at l ≡ refused 3
   unfolding field
   field-unknown h = need-no 3 _ h
 
+  pub field-epoch : isWidth l ≡ true → isEpoch (l .epoch) ≡ false → field s at l ≡ refused 7
+  unfolding field
+  field-epoch w h = need-yes 3 _ w ∙ need-no 7 _ h
+
   module _ (h : isLayout l ≡ true) where
     pub field-by : (r : Counted) → countAt s at (width l) ≡ r → field s at l ≡ given (timeOf l) (saysCounted r)
-    unfolding field
-    field-by r e = need-yes 3 _ h ∙ ap (λ (x : Counted). given (timeOf l) (saysCounted x)) e
+    unfolding field isLayout
+    field-by r e = needs-yes (isWidth l) _ 3 7 _ h ∙ ap (λ (x : Counted). given (timeOf l) (saysCounted x)) e
 
     pub counted-read : (t : ℕ) → countAt s at (width l) ≡ Done t → Read 256 octetValue octetGood 8 s at (width l) t (width l)
     counted-read t e = told 256 octetValue octetGood 8 s at (width l) (Done t) e
@@ -59,9 +63,9 @@ says-done Bad t e = never 4 t e
 says-done C.Out t e = never 1 t e
 
 pub field-told : (s : List ℕ) (at : ℕ) (l : Layout) (m : Time) → field s at l ≡ done m → Told s at l m
-unfolding field
+unfolding field isLayout
 field-told s at l m e =
-    let (h, f) = need-done (isLayout l) 3 _ m e in
+    let (h, f) = needs-done (isWidth l) (isEpoch (l .epoch)) 3 7 _ m e in
     let (t, (c, i)) = given-done (timeOf l) (saysCounted (countAt s at (width l))) m f in
     let d = says-done (countAt s at (width l)) t c in
     record { count = t; layout = h; good = layout-good l h; read = counted-read s at l h t d; below = counted-lt s at l h t d; is = i }
@@ -73,18 +77,22 @@ module _ (l : Layout) (r : Time) where
   bytes-invalid v = need-no 7 _ v
 
   module _ (v : isRecord r ≡ true) where
-    pub bytes-unknown : isLayout l ≡ false → bytesOf l r ≡ refused 3
+    pub bytes-unknown : isWidth l ≡ false → bytesOf l r ≡ refused 3
     unfolding bytesOf
     bytes-unknown h = need-yes 7 _ v ∙ need-no 3 _ h
 
+    pub bytes-epoch : isWidth l ≡ true → isEpoch (l .epoch) ≡ false → bytesOf l r ≡ refused 7
+    unfolding bytesOf
+    bytes-epoch w h = need-yes 7 _ v ∙ need-yes 3 _ w ∙ need-no 7 _ h
+
     module _ (h : isLayout l ≡ true) where
       pub bytes-out : holds l r ≡ false → bytesOf l r ≡ refused 7
-      unfolding bytesOf
-      bytes-out k = need-yes 7 _ v ∙ need-yes 3 _ h ∙ need-no 7 _ k
+      unfolding bytesOf isLayout
+      bytes-out k = need-yes 7 _ v ∙ needs-yes (isWidth l) _ 3 7 _ h ∙ need-no 7 _ k
 
       pub bytes-in : holds l r ≡ true → bytesOf l r ≡ done (octets (width l) (countOf l r))
-      unfolding bytesOf
-      bytes-in k = need-yes 7 _ v ∙ need-yes 3 _ h ∙ need-yes 7 _ k
+      unfolding bytesOf isLayout
+      bytes-in k = need-yes 7 _ v ∙ needs-yes (isWidth l) _ 3 7 _ h ∙ need-yes 7 _ k
 
 -- what a time that was written tells
 pub record Sourced (l : Layout) (r : Time) (code : List ℕ) : Type 0 where
@@ -95,10 +103,10 @@ pub record Sourced (l : Layout) (r : Time) (code : List ℕ) : Type 0 where
   pub is : octets (width l) (countOf l r) ≡ code
 
 pub bytes-told : (l : Layout) (r : Time) (code : List ℕ) → bytesOf l r ≡ done code → Sourced l r code
-unfolding bytesOf
+unfolding bytesOf isLayout
 bytes-told l r code e =
     let (v, f) = need-done (isRecord r) 7 _ code e in
-    let (h, i) = need-done (isLayout l) 3 _ code f in
+    let (h, i) = needs-done (isWidth l) (isEpoch (l .epoch)) 3 7 _ code f in
     let (k, j) = need-done (holds l r) 7 (done (octets (width l) (countOf l r))) code i in
     record { valid = v; layout = h; good = layout-good l h; held = k; is = done-is _ code j }
 

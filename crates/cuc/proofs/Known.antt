@@ -7,7 +7,7 @@ use Rattle.base.specs.Outcome.{done, refused}
 use Rattle.base.specs.Parts.{within}
 use Rattle.scale.specs.Time.{Time, good}
 use Rattle.octets.specs.Counts.{countOf}
-use Rattle.cuc.specs.Cuc.{isLayout, width, unit, timeOf, field, holds, bytesOf}
+use Rattle.cuc.specs.Cuc.{isWidth, width, unit, timeOf, field, holds, bytesOf}
 use Rattle.cuc.specs.Cuc as P
 use Rattle.cuc.specs.declared.Layout.{Layout}
 
@@ -22,7 +22,7 @@ abbrev second : List ℕ
 second = 110 ∷ 250 ∷ 165 ∷ 36 ∷ []
 
 between : field (28 ∷ 110 ∷ 250 ∷ 165 ∷ 36 ∷ 9 ∷ []) 1 (laid (pos 0) 4 0) ≡ done (time (pos 1861920036) 0)
-unfolding isLayout within width unit timeOf field good countOf
+unfolding isWidth within width unit timeOf field good countOf
 between = refl
 
 -- an epoch of its own, before 1958: the ends of one coarse octet, and past each
@@ -30,10 +30,10 @@ abbrev near : Layout
 near = laid (negsuc 9) 1 0
 
 ends : map (bytesOf near) (time (negsuc 9) 0 ∷ time (pos 245) 4095999999999999 ∷ time (negsuc 10) 4095999999999999 ∷ time (pos 246) 0 ∷ time (pos 0) 4096000000000000 ∷ []) ≡ done (0 ∷ []) ∷ done (255 ∷ []) ∷ refused 7 ∷ refused 7 ∷ refused 7 ∷ []
-unfolding isLayout within width unit holds bytesOf good P.countOf
+unfolding isWidth within width unit holds bytesOf good P.countOf
 ends = refl
 
--- bytes that run out; no such layout, though the bytes run out too; and a record is tested before the layout
-refusals : (field second 1 (laid (pos 0) 4 0) ≡ refused 1) × (map (field [] 0) (laid (pos 0) 0 0 ∷ laid (pos 0) 5 0 ∷ laid (pos 0) 1 4 ∷ laid (pos (2 ^ 40)) 1 0 ∷ laid (negsuc (2 ^ 40)) 1 0 ∷ laid (negsuc 1099511627775) 1 0 ∷ []) ≡ refused 3 ∷ refused 3 ∷ refused 3 ∷ refused 3 ∷ refused 3 ∷ refused 1 ∷ []) × (bytesOf (laid (pos 0) 0 0) (time (pos 0) 0) ≡ refused 3) × (bytesOf (laid (pos 0) 0 0) (time (pos 0) 4096000000000000) ≡ refused 7)
-unfolding isLayout within width unit timeOf field bytesOf good countOf
+-- bytes that run out; no such octets, then no such epoch, though the bytes run out too; and a record is tested before the layout
+refusals : (field second 1 (laid (pos 0) 4 0) ≡ refused 1) × (map (field [] 0) (laid (pos 0) 0 0 ∷ laid (pos 0) 5 0 ∷ laid (pos (2 ^ 40)) 1 4 ∷ laid (pos (2 ^ 40)) 1 0 ∷ laid (negsuc (2 ^ 40)) 1 0 ∷ laid (negsuc 1099511627775) 1 0 ∷ []) ≡ refused 3 ∷ refused 3 ∷ refused 3 ∷ refused 7 ∷ refused 7 ∷ refused 1 ∷ []) × (bytesOf (laid (pos 0) 0 0) (time (pos 0) 0) ≡ refused 3) × (bytesOf (laid (pos 0) 0 0) (time (pos 0) 4096000000000000) ≡ refused 7)
+unfolding isWidth within width unit timeOf field bytesOf good countOf
 refusals = (refl, refl, refl, refl)

@@ -18,12 +18,19 @@ abbrev pub isEpoch : ℤ → Bool
 isEpoch e = within (negℤ (pos (2 ^ 40))) (pos (2 ^ 40 - 1)) e
 
 -- "Bits 4-5: coarse octets less one. Bits 6-7: fine octets, 0 to 3"
+unfoldable pub isWidth : Layout → Bool
+isWidth l = leb 1 (l .coarse) && (leb (l .coarse) 4 && leb (l .fine) 3)
+
 unfoldable pub isLayout : Layout → Bool
-isLayout l = leb 1 (l .coarse) && (leb (l .coarse) 4 && (leb (l .fine) 3 && isEpoch (l .epoch)))
+isLayout l = isWidth l && isEpoch (l .epoch)
+
+-- "3, epoch 7": octets that no P octet gives, then an invalid epoch
+abbrev pub settled : {A : Type 0} → Layout → Outcome A → Outcome A
+settled l x = need (isWidth l) 3 (need (isEpoch (l .epoch)) 7 x)
 
 -- the octets of a T-field, and 0 where there is no such layout
 unfoldable pub width : Layout → ℕ
-width l = cond (isLayout l) (l .coarse + l .fine) 0
+width l = cond (isWidth l) (l .coarse + l .fine) 0
 
 -- the ticks of one unit of the count, which is 256^-f seconds
 unfoldable pub unit : ℕ → ℕ
@@ -39,9 +46,9 @@ epochTicks l = l .epoch *ℤ pos perSecond
 unfoldable pub timeOf : Layout → ℕ → Time
 timeOf l t = ofTicks (epochTicks l +ℤ pos (t * unit (l .fine)))
 
--- the moment that the T-field from `at` on names; "Order when reading: .. 3, .. short T 1"
+-- the moment that the T-field from `at` on names; "Order when reading: .. 3, epoch 7 .., short T 1"
 unfoldable pub field : List ℕ → ℕ → Layout → Outcome Time
-field s at l = need (isLayout l) 3 (given (timeOf l) (saysCounted (countAt s at (width l))))
+field s at l = settled l (given (timeOf l) (saysCounted (countAt s at (width l))))
 
 -- the times that T-fields of a layout read to
 abbrev pub Reads : Layout → Time → Type 0
@@ -61,9 +68,9 @@ holds l t = within (pos 0) (pos (256 ^ l .coarse - 1)) (floor (since l t) perSec
 unfoldable pub countOf : Layout → Time → ℕ
 countOf l t = plus (floor (since l t) (unit (l .fine)))
 
--- the T-field of a time; "Writing: record 7, then .. 3, .. target 7"
+-- the T-field of a time; "Writing: record 7, then .. 3, epoch 7, .. target 7"
 unfoldable pub bytesOf : Layout → Time → Outcome (List ℕ)
-bytesOf l t = need (isRecord t) 7 (need (isLayout l) 3 (need (holds l t) 7 (done (octets (width l) (countOf l t)))))
+bytesOf l t = need (isRecord t) 7 (settled l (need (holds l t) 7 (done (octets (width l) (countOf l t)))))
 
 -- the target has the second of a source, by the times that its T-fields read to
 abbrev pub Holds : Layout → Time → Type 0

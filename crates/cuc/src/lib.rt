@@ -11,7 +11,7 @@ ghost use Rattle.base.specs.Outcome.{andThen};
 ghost use Rattle.scale.specs.Answers.{recorded, saysRecord};
 ghost use Rattle.scale.specs.Inner.{Within};
 ghost use Rattle.octets.specs.Writes.{roomed, Wrote};
-ghost use Rattle.cuc.specs.Cuc.{isLayout, width, timeOf, field, bytesOf};
+ghost use Rattle.cuc.specs.Cuc.{isEpoch, isWidth, width, timeOf, field, bytesOf};
 ghost use Rattle.cuc.specs.Inner.{Good, seatIn};
 
 // The epoch that a count is from, in whole TAI seconds, and the octets of its whole seconds and of its fraction.
@@ -25,15 +25,26 @@ pub struct Layout {
 pub fn size(l: Layout) -> usize
     ensures { λ r. ⌜ r ≡ width l ⌝ }
 {
-    if allowed(l) { l.coarse + l.fine } else { 0 }
+    if is_width(l) { l.coarse + l.fine } else { 0 }
+}
+
+// Whether a count can be from an epoch.
+pub fn is_epoch(epoch: i64) -> bool
+    ensures { λ r. ⌜ r ≡ isEpoch epoch ⌝ }
+{
+    base::between(-1099511627776, 1099511627775, epoch)
 }
 
 // The moment that the T-field from `at` on names.
 pub fn read(s: &[u8], at: usize, l: Layout) -> RecordAnswer
     ensures { λ r. ⌜ saysRecord r ≡ field (now (s .entry)) at l ⌝ }
 {
-    if !allowed(l) {
+    if !is_width(l) {
         return RecordAnswer::Refused(Refusal::Unsupported);
+    }
+    let epoch = l.epoch;
+    if !is_epoch(epoch) {
+        return RecordAnswer::Refused(Refusal::Range);
     }
     let w = size(l);
     let counted = octets::count(s, at, w);
@@ -51,8 +62,12 @@ pub fn write(r: Record, l: Layout, out: &mut [u8], at: usize) -> Written
     if !r.valid() {
         return Written::Refused(Refusal::Range);
     }
-    if !allowed(l) {
+    if !is_width(l) {
         return Written::Refused(Refusal::Unsupported);
+    }
+    let epoch = l.epoch;
+    if !is_epoch(epoch) {
+        return Written::Refused(Refusal::Range);
     }
     let seat = reckon(r, l);
     match seat {
@@ -60,28 +75,19 @@ pub fn write(r: Record, l: Layout, out: &mut [u8], at: usize) -> Written
         Seat::In(n) => {
             let w = size(l);
             if octets::put_count(out, at, w, n) {
-                return Written::Done(at + w);
+                let end = at + w;
+                return Written::Done(end);
             }
             Written::Refused(Refusal::Room)
         }
     }
 }
 
-// Whether there is such a layout.
-fn allowed(l: Layout) -> bool
-    ensures { λ r. ⌜ r ≡ isLayout l ⌝ }
+// Whether a P octet gives so many octets.
+fn is_width(l: Layout) -> bool
+    ensures { λ r. ⌜ r ≡ isWidth l ⌝ }
 {
-    if l.coarse < 1 {
-        return false;
-    }
-    if 4 < l.coarse {
-        return false;
-    }
-    if 3 < l.fine {
-        return false;
-    }
-    let epoch = l.epoch;
-    base::between(-1099511627776, 1099511627775, epoch)
+    (1 <= l.coarse) & ((l.coarse <= 4) & (l.fine <= 3))
 }
 
 // The moment that a count names.

@@ -31,8 +31,8 @@ unfolding table
     within good countOf pasted roomed
     kind yearStart yearsTo row monthLength isDate isOrdinal dayIndex ordinalOn dateIn indexOfDate indexOfOrdinal ordinalAt
     offset start dayLength covers secondAt dayHolding coversSecond readingAt builtin raisedBy readingOf secondOf utcOfSecond secondOfUtc
-    U.isLayout U.width U.unit U.timeOf U.field U.holds U.countOf U.bytesOf
-    D.isLayout D.width D.timed D.fieldBy D.held D.laid D.bytesOn D.bytesBy
+    U.isWidth U.width U.unit U.timeOf U.field U.holds U.countOf U.bytesOf
+    D.isWidth D.width D.timed D.fieldBy D.held D.laid D.bytesOn D.bytesBy
     C.width C.dayAt C.clockAt C.timeOf C.fieldBy C.dateText C.clockText C.bytesBy
     shapes shaped A.layoutOf A.dayAt A.clockAt A.fieldsOf A.timeOf A.textBy A.dayText A.clockText A.codeText A.bytesBy
     P.known laid cucLaid cdsLaid ccsLaid scanIn scanAt scanOf writeOf

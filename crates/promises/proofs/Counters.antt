@@ -3,19 +3,19 @@ use mathlib.Core.Path.{_≡_, sym, ap, _∙_}
 use mathlib.Core.Bool.{Bool, true, false, cond, _||_}
 use mathlib.Core.List.{List}
 use mathlib.Core.Logic.{_↔_}
-use Prim.Native.Nat.{ℕ, _+_, _%_, _^_, _-_}
+use Prim.Native.Nat.{ℕ, _+_, _%_, _^_}
 use native.Mathlib.Omega.{arith}
 use borrow.Author.Tests.{le-leb}
 use lib.Dec.{ltb, eqb}
-use lib.IntN.{ℤ, pos, negℤ}
+use lib.IntN.{ℤ}
 use lib.ListN.{length, getD}
 use Rattle.base.specs.Outcome.{Outcome, done, andThen, given}
-use Rattle.base.specs.Parts.{within}
 use Rattle.base.proofs.Ladders.{need-yes, need-done, done-is}
 use Rattle.scale.specs.Time.{Time}
-use Rattle.octets.specs.Writes.{saysCounted}
-use Rattle.cuc.specs.Cuc.{width, timeOf, field}
+use Rattle.cuc.specs.Cuc.{isEpoch, width, field}
 use Rattle.cuc.specs.declared.Layout as U
+use Rattle.cuc.proofs.Fields.{field-by}
+use Rattle.cds.specs.Cds.{isEpochDay}
 use Rattle.codes.specs.PField.{ident, known, bit4, laid, cucLaid, cdsLaid, ccsLaid}
 use Rattle.codes.specs.Reading.{Scanned, scanned, scanIn, scanAt, scanOf}
 use Rattle.codes.specs.declared.Preamble.{Preamble}
@@ -36,7 +36,7 @@ coarseIn (Ccs l) = 0
 not-cds : {X : Type 0} (o : ℕ) (e : ℤ) (l : U.Layout) → cdsLaid o e ≡ done (Cuc l) → X
 unfolding cdsLaid
 not-cds o e l h =
-    let k = done-is _ (Cuc l) (need-done (eqb (bit4 o) 0 || within (negℤ (pos (2 ^ 24))) (pos (2 ^ 24 - 1)) e) 7 _ (Cuc l) (need-done (ltb (o % 4) 3) 3 _ (Cuc l) h .1) .1) in
+    let k = done-is _ (Cuc l) (need-done (eqb (bit4 o) 0 || isEpochDay e) 7 _ (Cuc l) (need-done (ltb (o % 4) 3) 3 _ (Cuc l) h .1) .1) in
     let z : _≡_ {A = ℕ} 0 1 = cc in
     absurd (omega arith)
 
@@ -50,7 +50,7 @@ not-ccs o l h =
 coarse-by : (o : ℕ) (e : ℤ) (l : U.Layout) → cucLaid o e ≡ done (Cuc l) → l .coarse ≡ coarse o
 unfolding cucLaid
 coarse-by o e l h =
-    sym (ap coarseIn (done-is _ (Cuc l) (need-done (eqb (ident o) 1 || within (negℤ (pos (2 ^ 40))) (pos (2 ^ 40 - 1)) e) 7 _ (Cuc l) h .1)))
+    sym (ap coarseIn (done-is _ (Cuc l) (need-done (eqb (ident o) 1 || isEpoch e) 7 _ (Cuc l) h .1)))
 
 laid-coarse : (o : ℕ) (e : ℤ) (l : U.Layout) → laid o e ≡ done (Cuc l) → l .coarse ≡ coarse o
 unfolding laid
@@ -67,11 +67,11 @@ record Tagged (s : List ℕ) (at o : ℕ) (e : ℤ) (g : Periodic) : Type 0 wher
   repeats : g .period ≡ 256 ^ coarse o
 
 tagged : (s : List ℕ) (at o : ℕ) (e : ℤ) (g : Periodic) → Made s at o e g → Tagged s at o e g
-unfolding scanAt scanIn field
+unfolding scanAt scanIn
 tagged s at o e g d =
     let l = d .layout in
     let f : field s at l ≡ done (g .first) =
-    need-yes 3 _ (laid-good o e (Cuc l) (d .lays)) ∙ ap (λ c. given (timeOf l) (saysCounted c)) (d .counts) ∙ ap (λ (y : Periodic). done (y .first)) (d .is) in
+    field-by s at l (laid-good o e (Cuc l) (d .lays)) _ (d .counts) ∙ ap (λ (y : Periodic). done (y .first)) (d .is) in
     record {
       reads =
           ap (λ (x : Outcome Layout). andThen x (scanIn s at)) (d .lays)

@@ -162,7 +162,7 @@ lays o e =
 
 cuc-read : (s : List ℕ) (at : ℕ) (l : UL.Layout) → Numbered (U.field s at l)
 unfolding U.field
-cuc-read s at l = by-need (U.isLayout l) 3 refl (by-given (U.timeOf l) (by-count (countAt s at (U.width l))))
+cuc-read s at l = by-need (U.isWidth l) 3 refl (by-need (U.isEpoch (l .epoch)) 7 refl (by-given (U.timeOf l) (by-count (countAt s at (U.width l)))))
 
 cds-timed : (l : DL.Layout) (d m p : ℕ) → Numbered (D.timed builtin l d m p)
 unfolding D.timed
@@ -173,12 +173,13 @@ cds-timed l d m p =
 cds-read : (s : List ℕ) (at : ℕ) (l : DL.Layout) → Numbered (D.field s at l)
 unfolding D.fieldBy
 cds-read s at l =
-    by-need (D.isLayout l) 3 refl
+    by-need (D.isWidth l) 3 refl
+    (by-need (D.isEpochDay (l .epoch)) 7 refl
     (by-need (leb (at + D.width l) (length s)) 1 refl
     (by-then (by-count (countAt s at (l .day))) (λ d.
     by-then (by-count (countAt s (at + l .day) 4)) (λ m.
     by-then (by-count (countAt s (at + l .day + 4) (l .part))) (λ p.
-    cds-timed l d m p)))))
+    cds-timed l d m p))))))
 
 pair : (s : List ℕ) (at w : ℕ) → Numbered (C.pairs s at w)
 pair s at w = by-count (bcdAt s at w)
@@ -221,11 +222,13 @@ scan s Front e = by-need (leb 1 (length s)) 1 refl (scan-at s 1 (getD s 0 0) e)
 
 cuc-bytes : (l : UL.Layout) (r : Time) → Numbered (U.bytesOf l r)
 unfolding U.bytesOf
-cuc-bytes l r = by-need (isRecord r) 7 refl (by-need (U.isLayout l) 3 refl (by-need (U.holds l r) 7 refl ended))
+cuc-bytes l r = by-need (isRecord r) 7 refl (by-need (U.isWidth l) 3 refl (by-need (U.isEpoch (l .epoch)) 7 refl (by-need (U.holds l r) 7 refl ended)))
 
 cds-bytes : (l : DL.Layout) (r : Time) → Numbered (D.bytesOf l r)
 unfolding D.bytesBy D.bytesOn
-cds-bytes l r = by-need (isRecord r) 7 refl (by-need (D.isLayout l) 3 refl (by-then (utc (r .sec)) (λ u. by-need (D.held l (u .day)) 7 refl ended)))
+cds-bytes l r =
+    by-need (isRecord r) 7 refl
+    (by-need (D.isWidth l) 3 refl (by-need (D.isEpochDay (l .epoch)) 7 refl (by-then (utc (r .sec)) (λ u. by-need (D.held l (u .day)) 7 refl ended))))
 
 date-text : (o : Bool) (n : ℕ) → Numbered (C.dateText o n)
 unfolding C.dateText

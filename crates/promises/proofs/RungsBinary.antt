@@ -10,7 +10,7 @@ use lib.ListN.{length, getD}
 use borrow.Author.Tests.{leb-true}
 use Rattle.base.specs.Outcome.{Outcome, done, refused, need, andThen, given, status}
 use Rattle.base.proofs.Bools.{never-both, and-one}
-use Rattle.base.proofs.Ladders.{need-yes, need-no}
+use Rattle.base.proofs.Ladders.{need-yes, need-no, needs-yes}
 use Rattle.scale.specs.Time.{Time, isRecord}
 use Rattle.leap.specs.Builtin.{builtin}
 use Rattle.leap.specs.Utc.{readingOf, utc, utcOfSecond}
@@ -18,6 +18,7 @@ use Rattle.leap.specs.declared.Utc.{Utc}
 use Rattle.leap.specs.declared.Reading.{Reading}
 use Rattle.cuc.specs.Cuc as U
 use Rattle.cuc.specs.declared.Layout.{Layout as CucLayout}
+use Rattle.cuc.proofs.Fields.{bytes-in, bytes-out}
 use Rattle.cuc.proofs.Layouts as UL
 use Rattle.cds.specs.Cds as D
 use Rattle.cds.specs.declared.Layout.{Layout as CdsLayout}
@@ -37,7 +38,7 @@ use Rattle.codes.proofs.Layouts.{isLayoutOf, laid-good}
 use Rattle.codes.proofs.Fields.{bytes-width}
 use Rattle.promises.specs.Rungs.{firstBroken, allHold}
 use Rattle.promises.specs.RungsCalendar.{coveredSecond}
-use Rattle.promises.specs.RungsBinary.{isEpochDay, octetRungs, cucOf, cdsOf, ccsOf, layoutOf, octetsOf, fieldRungs, readBinaryRungs, sourceGood, targetGood, codeOctets, targetRungs, writeBinaryRungs}
+use Rattle.promises.specs.RungsBinary.{octetRungs, cucOf, cdsOf, ccsOf, layoutOf, octetsOf, fieldRungs, readBinaryRungs, sourceGood, targetGood, codeOctets, targetRungs, writeBinaryRungs}
 use Rattle.promises.proofs.Rungs.{climb, climbs-up, step, after, need-both, status-given}
 use Rattle.promises.proofs.RungsCalendar.{readingHere, reading-climbs}
 use Rattle.promises.proofs.RungsAscii.{room-rung}
@@ -52,7 +53,7 @@ laid-climbs o e = ap (need (known (ident o)) 2) (go (eqb (ident o) 5) (eqb (iden
     cuc = eqb (ident o) 1 || U.isEpoch e
 
     cds : Bool
-    cds = eqb (bit4 o) 0 || isEpochDay e
+    cds = eqb (bit4 o) 0 || D.isEpochDay e
 
     go : (a b x : Bool) → need x 3 (cond a (need (ltb (o % 8) 7) 3 (done (Ccs (ccsOf o)))) (cond b (need (ltb (o % 4) 3) 3 (need cds 7 (done (Cds (cdsOf o e))))) (need cuc 7 (done (Cuc (cucOf o e))))))
         ≡ need (x && cond a (ltb (o % 8) 7) (cond b (ltb (o % 4) 3) true)) 3 (need (cond a true (cond b cds cuc)) 7 (done (cond a (Ccs (ccsOf o)) (cond b (Cds (cdsOf o e)) (Cuc (cucOf o e))))))
@@ -101,15 +102,14 @@ module _ (r : Time) (valid : isRecord r ≡ true) where
     pub uncovered : c ≡ false → bytesOf l r ≡ refused 5
 
   cuc-targeted : (l : CucLayout) → U.isLayout l ≡ true → Targeted (Cuc l) true (U.holds l r)
-  unfolding U.bytesOf
   cuc-targeted l g = record {
-    written = λ c h. (_, need-yes 7 _ valid ∙ need-yes 3 _ g ∙ need-yes 7 _ h);
-    unheld = λ c h. need-yes 7 _ valid ∙ need-yes 3 _ g ∙ need-no 7 _ h;
+    written = λ c h. (_, bytes-in l r valid g h);
+    unheld = λ c h. bytes-out l r valid g h;
     uncovered = λ c. never-both refl c;
   }
 
   cds-targeted : (l : CdsLayout) → D.isLayout l ≡ true → Targeted (Cds l) (sourceGood (Cds l) r) (targetGood (Cds l) r)
-  unfolding D.bytesBy D.bytesOn D.held utcOfSecond readingHere
+  unfolding D.bytesBy D.bytesOn D.held D.isLayout utcOfSecond readingHere
   cds-targeted l g = record {
     written = λ c h. (_, start ∙ ap (λ (x : Outcome Reading). andThen (given utc x) on) (reading-yes (r .sec) c) ∙ need-yes 7 _ h);
     unheld = λ c h. start ∙ ap (λ (x : Outcome Reading). andThen (given utc x) on) (reading-yes (r .sec) c) ∙ need-no 7 _ h;
@@ -120,7 +120,7 @@ module _ (r : Time) (valid : isRecord r ≡ true) where
       on u = D.bytesOn l u (r .ticks)
 
       start : D.bytesOf l r ≡ andThen (given utc (readingOf builtin (r .sec))) on
-      start = need-yes 7 _ valid ∙ need-yes 3 _ g
+      start = need-yes 7 _ valid ∙ needs-yes (D.isWidth l) _ 3 7 _ g
 
   ccs-targeted : (l : CcsLayout) → C.isLayout l ≡ true → Targeted (Ccs l) (sourceGood (Ccs l) r) true
   ccs-targeted l g = record {

@@ -11,7 +11,7 @@ use lib.Seq.{getD-drop, drop-drop}
 use borrow.Author.Tests.{leb-true, le-leb, ltb-true, lt-ltb, eqb-true}
 use Rattle.base.specs.Outcome.{Outcome, done, need, andThen, given, status}
 use Rattle.base.proofs.Bools.{and-true, cond-yes}
-use Rattle.base.proofs.Ladders.{need-yes}
+use Rattle.base.proofs.Ladders.{need-yes, needs-yes}
 use Rattle.scale.specs.Time.{Time}
 use Rattle.octets.specs.Places.{number, allGood, be, octetValue, octetGood, bcdValue, bcdGood}
 use Rattle.octets.specs.Counts.{countOf, countAt}
@@ -25,6 +25,7 @@ use Rattle.leap.specs.Builtin.{builtin}
 use Rattle.leap.specs.Utc.{secondOf, secondOfUtc}
 use Rattle.cuc.specs.Cuc as U
 use Rattle.cuc.specs.declared.Layout.{Layout as CucLayout}
+use Rattle.cuc.proofs.Fields.{field-by}
 use Rattle.cuc.proofs.Layouts as UL
 use Rattle.cds.specs.Cds as D
 use Rattle.cds.specs.declared.Layout.{Layout as CdsLayout}
@@ -75,11 +76,10 @@ module _ (b : ℕ) (v : ℕ → ℕ) (ok : ℕ → Bool) (widest : ℕ) (s : Lis
 
 -- ---- CUC
 pub cuc-climbs : (s : List ℕ) (at : ℕ) (l : CucLayout) → U.isLayout l ≡ true → U.field s at l ≡ climb (rung 1 (leb (at + (l .coarse + l .fine)) (length s)) ∷ rung 4 (allGood octetGood (drop at s) (l .coarse + l .fine)) ∷ []) (U.timeOf l (countIn s at (l .coarse + l .fine)))
-unfolding U.field
 cuc-climbs s at l h =
     let g = UL.layout-good l h in
     let w = l .coarse + l .fine in
-    need-yes 3 _ h
+    field-by s at l h _ refl
     ∙ ap (λ (n : ℕ). given (U.timeOf l) (saysCounted (countAt s at n))) (UL.width-is l h)
     ∙ ap (given (U.timeOf l)) (run-climbs 256 octetValue octetGood 8 s at w (le-leb w 8 (omega (arith, g .narrow, g .short))))
     ∙ given-climb (U.timeOf l) (rung 1 (leb (at + w) (length s)) ∷ rung 4 (allGood octetGood (drop at s) w) ∷ []) (countIn s at w)
@@ -146,11 +146,11 @@ module _ (s : List ℕ) (at : ℕ) (l : CdsLayout) (h : D.isLayout l ≡ true) w
       ∙ ap (λ (b : Bool). need (allGood octetGood (drop at s) (l .day + 4 + l .part) && (leb (milliIn s at l) 86400999 && b)) 4 x) (part-is (l .part) (drop (at + l .day + 4) s))
 
   cds-rungs : status (D.field s at l) ≡ firstBroken (fieldRungs s at (Cds l))
-  unfolding D.fieldBy
+  unfolding D.fieldBy D.isLayout
   cds-rungs =
       let z = l .epoch +ℤ pos (countIn s at (l .day)) in
       let m = milliIn s at l in
-      ap status (need-yes 3 _ h)
+      ap status (needs-yes (D.isWidth l) _ 3 7 _ h)
       ∙ ap (λ (w : ℕ). status (need (leb (at + w) (length s)) 1 rest)) (DL.width-is l h)
       ∙ step (leb (at + (l .day + 4 + l .part)) (length s)) 1 _ _ (λ t.
       ap status (cds-moment t)

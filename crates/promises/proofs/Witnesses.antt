@@ -69,19 +69,19 @@ letters b d z = Ascii (record { ordinal = b; digits = d; zone = z })
 
 -- CUC, CDS and CCS, the P octet in front or apart, by a caller's epoch or not; ASCII A and B
 cuc : Witness (Binary 0x1c (pos 0) true) (0x1c ∷ 0x6e ∷ 0xfa ∷ 0xa5 ∷ 0x24 ∷ [])
-unfolding good within known laid cucLaid cdsLaid ccsLaid scanIn scanAt scanOf writeOf roomed countOf U.isLayout U.width U.unit U.timeOf U.field U.holds U.countOf U.bytesOf
+unfolding good within known laid cucLaid cdsLaid ccsLaid scanIn scanAt scanOf writeOf roomed countOf U.isWidth U.width U.unit U.timeOf U.field U.holds U.countOf U.bytesOf
 cuc = record { ready = record { source = refl; settings = (_, refl); room = lit≤ tt }; written-as = refl; own = refl; reads = refl }
 
 cuc-apart : Witness (Binary 0x22 (pos 1861920000) false) (36 ∷ 0 ∷ 0 ∷ [])
-unfolding good within known laid cucLaid cdsLaid ccsLaid scanIn scanAt scanOf writeOf roomed countOf U.isLayout U.width U.unit U.timeOf U.field U.holds U.countOf U.bytesOf
+unfolding good within known laid cucLaid cdsLaid ccsLaid scanIn scanAt scanOf writeOf roomed countOf U.isWidth U.width U.unit U.timeOf U.field U.holds U.countOf U.bytesOf
 cuc-apart = record { ready = record { source = refl; settings = (_, refl); room = lit≤ tt }; written-as = refl; own = tt; reads = refl }
 
 cds : Witness (Binary 0x40 (pos 0) true) (0x40 ∷ 0x54 ∷ 0x2d ∷ 0x05 ∷ 0x26 ∷ 0x5c ∷ 0x00 ∷ [])
-unfolding good within known laid cucLaid cdsLaid ccsLaid scanIn scanAt scanOf writeOf roomed countOf D.isLayout D.width D.timed D.fieldBy D.held D.laid D.bytesOn D.bytesBy L.utcOfSecond L.readingOf L.raisedBy L.secondOfUtc L.secondOf readingAt coversSecond dayHolding secondAt covers dayLength start offset builtin
+unfolding good within known laid cucLaid cdsLaid ccsLaid scanIn scanAt scanOf writeOf roomed countOf D.isWidth D.width D.timed D.fieldBy D.held D.laid D.bytesOn D.bytesBy L.utcOfSecond L.readingOf L.raisedBy L.secondOfUtc L.secondOf readingAt coversSecond dayHolding secondAt covers dayLength start offset builtin
 cds = record { ready = record { source = refl; settings = (_, refl); room = lit≤ tt }; written-as = refl; own = refl; reads = refl }
 
 cds-apart : Witness (Binary 0x49 (pos 21549) false) (0 ∷ 0 ∷ 0x05 ∷ 0x26 ∷ 0x5c ∷ 0x00 ∷ 0 ∷ 0 ∷ [])
-unfolding good within known laid cucLaid cdsLaid ccsLaid scanIn scanAt scanOf writeOf roomed countOf D.isLayout D.width D.timed D.fieldBy D.held D.laid D.bytesOn D.bytesBy L.utcOfSecond L.readingOf L.raisedBy L.secondOfUtc L.secondOf readingAt coversSecond dayHolding secondAt covers dayLength start offset builtin
+unfolding good within known laid cucLaid cdsLaid ccsLaid scanIn scanAt scanOf writeOf roomed countOf D.isWidth D.width D.timed D.fieldBy D.held D.laid D.bytesOn D.bytesBy L.utcOfSecond L.readingOf L.raisedBy L.secondOfUtc L.secondOf readingAt coversSecond dayHolding secondAt covers dayLength start offset builtin
 cds-apart = record { ready = record { source = refl; settings = (_, refl); room = lit≤ tt }; written-as = refl; own = tt; reads = refl }
 
 ccs : Witness (Binary 0x58 (pos 0) true) (0x58 ∷ 0x20 ∷ 0x16 ∷ 0x03 ∷ 0x66 ∷ 0x23 ∷ 0x59 ∷ 0x60 ∷ [])
@@ -125,7 +125,7 @@ abbrev early : Time
 early = time (pos 441763209) 0
 
 outside : Refusing (Binary 0x10 (pos 0) true) leap 7 × Refusing (Binary 0x48 (pos 21550) true) leap 7 × Refusing (Binary 0x40 (pos 0) true) early 5 × Refusing (Binary 0x50 (pos 0) true) early 5 × Refusing (letters true 0 false) early 5
-unfolding good within known laid cucLaid cdsLaid ccsLaid scanIn scanAt scanOf writeOf roomed countOf U.isLayout U.width U.unit U.timeOf U.field U.holds U.countOf U.bytesOf D.isLayout D.width D.timed D.fieldBy D.held D.laid D.bytesOn D.bytesBy C.width C.dayAt C.clockAt C.timeOf C.fieldBy C.dateText C.clockText C.bytesBy A.width A.layoutOf A.dayAt A.clockAt A.fieldsOf A.timeOf A.textBy A.dayText A.clockText A.codeText A.bytesBy shaped shapes L.utcOfSecond L.readingOf L.raisedBy L.secondOfUtc L.secondOf readingAt coversSecond dayHolding secondAt covers dayLength start offset builtin kind yearStart yearsTo row monthLength isDate isOrdinal dayIndex ordinalOn dateIn indexOfDate indexOfOrdinal indexOfDay ordinalAt
+unfolding good within known laid cucLaid cdsLaid ccsLaid scanIn scanAt scanOf writeOf roomed countOf U.isWidth U.width U.unit U.timeOf U.field U.holds U.countOf U.bytesOf D.isWidth D.width D.timed D.fieldBy D.held D.laid D.bytesOn D.bytesBy C.width C.dayAt C.clockAt C.timeOf C.fieldBy C.dateText C.clockText C.bytesBy A.width A.layoutOf A.dayAt A.clockAt A.fieldsOf A.timeOf A.textBy A.dayText A.clockText A.codeText A.bytesBy shaped shapes L.utcOfSecond L.readingOf L.raisedBy L.secondOfUtc L.secondOf readingAt coversSecond dayHolding secondAt covers dayLength start offset builtin kind yearStart yearsTo row monthLength isDate isOrdinal dayIndex ordinalOn dateIn indexOfDate indexOfOrdinal indexOfDay ordinalAt
 outside = (
   record { ready = record { source = refl; settings = (_, refl); room = lit≤ tt }; refuses = refl },
   record { ready = record { source = refl; settings = (_, refl); room = lit≤ tt }; refuses = refl },
@@ -139,7 +139,7 @@ abbrev lent : ℕ → List ℤ
 lent n = replicate n (pos 9)
 
 counts : given (listed (lent 2)) (listBy (counter (16 ∷ 0 ∷ []) Front (pos 0)) (time (pos 0) 0) (time (pos 1024) 0)) ≡ done (record { ticks = 0; count = 2; more = true })
-unfolding good within known laid cucLaid cdsLaid ccsLaid scanIn scanAt scanOf writeOf roomed countOf U.isLayout U.width U.unit U.timeOf U.field U.holds U.countOf U.bytesOf K.isCuc K.tagWith K.tagIn K.tagAt K.tagOf K.listPeriodic K.listCuc startAt momentsIn firstSecond counted namedIn filter consIf range up listed
+unfolding good within known laid cucLaid cdsLaid ccsLaid scanIn scanAt scanOf writeOf roomed countOf U.isWidth U.width U.unit U.timeOf U.field U.holds U.countOf U.bytesOf K.isCuc K.tagWith K.tagIn K.tagAt K.tagOf K.listPeriodic K.listCuc startAt momentsIn firstSecond counted namedIn filter consIf range up listed
 counts = refl
 
 -- "::60" over the five seconds around 2016-12-31T23:59:60
@@ -159,7 +159,7 @@ results : answers
     ∷ P.readBinary (0x1c ∷ 0x6e ∷ 0xfa ∷ 0xa5 ∷ 0x24 ∷ []) true 0 (pos 0) ∷ P.writeBinary leap true 0x1c (pos 0) room ∷ P.readAscii (bytes "2016-12-31T23:59:60") ∷ P.writeAscii leap (layout 12) room ∷ P.writeWall leap room
     ∷ P.listCuc (16 ∷ 0 ∷ []) true 0 (pos 0) (time (pos 0) 0) (time (pos 9) 0) ∷ P.listAscii (bytes "::60") leap leap ∷ [])
     ≡ replicate 15 0
-unfolding good within known laid cucLaid cdsLaid ccsLaid scanIn scanAt scanOf writeOf roomed countOf U.isLayout U.width U.unit U.timeOf U.field U.holds U.countOf U.bytesOf A.width A.layoutOf A.dayAt A.clockAt A.fieldsOf A.timeOf A.textBy A.dayText A.clockText A.codeText A.bytesBy shaped shapes L.utcOfSecond L.readingOf L.raisedBy L.secondOfUtc L.secondOf readingAt coversSecond dayHolding secondAt covers dayLength start offset builtin kind yearStart yearsTo row monthLength isDate isOrdinal dayIndex ordinalOn dateIn indexOfDate indexOfOrdinal indexOfDay ordinalAt K.isCuc K.tagWith K.tagIn K.tagAt K.tagOf K.listPeriodic K.listCuc startAt momentsIn firstSecond counted namedIn filter consIf range up calendarAs clockAs unzoned timeIn alone joined formed goodDay goodClock tagOf names dayFits clockFits AsciiTag.covered AsciiTag.listWanted AsciiTag.listAscii shapeOf days months hours minutes
+unfolding good within known laid cucLaid cdsLaid ccsLaid scanIn scanAt scanOf writeOf roomed countOf U.isWidth U.width U.unit U.timeOf U.field U.holds U.countOf U.bytesOf A.width A.layoutOf A.dayAt A.clockAt A.fieldsOf A.timeOf A.textBy A.dayText A.clockText A.codeText A.bytesBy shaped shapes L.utcOfSecond L.readingOf L.raisedBy L.secondOfUtc L.secondOf readingAt coversSecond dayHolding secondAt covers dayLength start offset builtin kind yearStart yearsTo row monthLength isDate isOrdinal dayIndex ordinalOn dateIn indexOfDate indexOfOrdinal indexOfDay ordinalAt K.isCuc K.tagWith K.tagIn K.tagAt K.tagOf K.listPeriodic K.listCuc startAt momentsIn firstSecond counted namedIn filter consIf range up calendarAs clockAs unzoned timeIn alone joined formed goodDay goodClock tagOf names dayFits clockFits AsciiTag.covered AsciiTag.listWanted AsciiTag.listAscii shapeOf days months hours minutes
 results = refl
 
 refusals : answers
@@ -167,5 +167,5 @@ refusals : answers
     ∷ P.readBinary (0x1c ∷ 0x6e ∷ []) true 0 (pos 0) ∷ P.writeBinary leap true 0x60 (pos 0) room ∷ P.readAscii (bytes "2016-12-31T12:00:60") ∷ P.writeAscii leap (layout 13) room ∷ P.writeWall leap (7 ∷ [])
     ∷ P.listCuc (16 ∷ 0 ∷ []) true 0 (pos 0) (time (pos 9) 0) (time (pos 0) 0) ∷ P.listAscii (bytes "::60") early leap ∷ [])
     ≡ 7 ∷ 7 ∷ 4 ∷ 7 ∷ 4 ∷ 7 ∷ 5 ∷ 6 ∷ 1 ∷ 2 ∷ 4 ∷ 3 ∷ 8 ∷ 9 ∷ 5 ∷ []
-unfolding good within known laid cucLaid cdsLaid ccsLaid scanIn scanAt scanOf writeOf roomed countOf U.isLayout U.width U.unit U.timeOf U.field U.holds U.countOf U.bytesOf A.width A.layoutOf A.dayAt A.clockAt A.fieldsOf A.timeOf A.textBy A.dayText A.clockText A.codeText A.bytesBy shaped shapes L.utcOfSecond L.readingOf L.raisedBy L.secondOfUtc L.secondOf readingAt coversSecond dayHolding secondAt covers dayLength start offset builtin kind yearStart yearsTo row monthLength isDate isOrdinal dayIndex ordinalOn dateIn indexOfDate indexOfOrdinal indexOfDay ordinalAt K.isCuc K.tagWith K.tagIn K.tagAt K.tagOf K.listPeriodic K.listCuc startAt momentsIn firstSecond counted namedIn filter consIf range up calendarAs clockAs unzoned timeIn alone joined formed goodDay goodClock tagOf names dayFits clockFits AsciiTag.covered AsciiTag.listWanted AsciiTag.listAscii shapeOf days months hours minutes
+unfolding good within known laid cucLaid cdsLaid ccsLaid scanIn scanAt scanOf writeOf roomed countOf U.isWidth U.width U.unit U.timeOf U.field U.holds U.countOf U.bytesOf A.width A.layoutOf A.dayAt A.clockAt A.fieldsOf A.timeOf A.textBy A.dayText A.clockText A.codeText A.bytesBy shaped shapes L.utcOfSecond L.readingOf L.raisedBy L.secondOfUtc L.secondOf readingAt coversSecond dayHolding secondAt covers dayLength start offset builtin kind yearStart yearsTo row monthLength isDate isOrdinal dayIndex ordinalOn dateIn indexOfDate indexOfOrdinal indexOfDay ordinalAt K.isCuc K.tagWith K.tagIn K.tagAt K.tagOf K.listPeriodic K.listCuc startAt momentsIn firstSecond counted namedIn filter consIf range up calendarAs clockAs unzoned timeIn alone joined formed goodDay goodClock tagOf names dayFits clockFits AsciiTag.covered AsciiTag.listWanted AsciiTag.listAscii shapeOf days months hours minutes
 refusals = refl

@@ -3,7 +3,7 @@ use mathlib.Core.Bool.{Bool, true, false, cond, _&&_, _||_}
 use mathlib.Core.List.{List, [], _∷_, _++_}
 use Prim.Native.Nat.{ℕ, _+_, _-_, _*_, _/_, _%_, _^_}
 use lib.Dec.{leb, ltb, eqb}
-use lib.IntN.{ℤ, pos, negℤ, natAbs, _+ℤ_, _-ℤ_}
+use lib.IntN.{ℤ, pos, natAbs, _+ℤ_, _-ℤ_}
 use lib.ListN.{length, getD, drop}
 use Rattle.base.specs.Parts.{within}
 use Rattle.scale.specs.Time.{Time, isRecord}
@@ -15,6 +15,7 @@ use Rattle.leap.specs.Builtin.{builtin}
 use Rattle.leap.specs.Utc.{secondRaise}
 use Rattle.cuc.specs.Cuc.{isEpoch, holds}
 use Rattle.cuc.specs.declared.Layout as U
+use Rattle.cds.specs.Cds.{isEpochDay}
 use Rattle.cds.specs.declared.Layout as D
 use Rattle.ccs.specs.declared.Layout as C
 use Rattle.codes.specs.PField.{ident, known, bit4}
@@ -46,10 +47,6 @@ byCode o cuc cds ccs = cond (eqb (ident o) 5) ccs (cond (eqb (ident o) 4) cds cu
 -- "extension bit set, CDS 11, CCS 7" are 3
 abbrev pub supported : ℕ → Bool
 supported o = ltb o 128 && byCode o true (ltb (o % 4) 3) (ltb (o % 8) 7)
-
--- "caller's epoch day (-2^24 to 2^24 - 1)"
-abbrev pub isEpochDay : ℤ → Bool
-isEpochDay e = within (negℤ (pos (2 ^ 24))) (pos (2 ^ 24 - 1)) e
 
 -- "epoch 7 (only if the code uses one)": CUC 001 and a CDS whose bit 4 is 0 count from 1958, and CCS has none
 abbrev pub epochGood : ℕ → ℤ → Bool

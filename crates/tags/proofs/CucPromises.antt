@@ -11,7 +11,7 @@ use lib.IntN.{ℤ}
 use lib.ListN.{length, getD}
 use Rattle.base.specs.Outcome.{Outcome, done, andThen}
 use Rattle.base.specs.Parts.{minus}
-use Rattle.base.proofs.Ladders.{never, need-done, then-done, given-done, done-is}
+use Rattle.base.proofs.Ladders.{never, need-done, needs-done, then-done, given-done, done-is}
 use Rattle.scale.specs.Time.{Time, isRecord}
 use Rattle.scale.proofs.Laws.{good-within}
 use Rattle.window.specs.Among.{Ascending}
@@ -22,7 +22,7 @@ use Rattle.octets.specs.Counts.{countAt}
 use Rattle.octets.specs.Writes.{saysCounted}
 use Rattle.octets.specs.declared.Counted.{Counted}
 use Rattle.octets.specs.declared.Counted.the-variants as C
-use Rattle.cuc.specs.Cuc.{isLayout, field, width, timeOf}
+use Rattle.cuc.specs.Cuc.{isEpoch, isWidth, field, width, timeOf}
 use Rattle.cuc.specs.declared.Layout as U
 use Rattle.cuc.proofs.Fields.{counted-lt}
 use Rattle.cuc.proofs.Layouts.{layout-good}
@@ -133,7 +133,7 @@ made-with : (s : List ℕ) (at o : ℕ) (e : ℤ) (l : U.Layout) (g : Periodic) 
 unfolding field
 made-with s at o e l g m p f h =
     let (long, i) = need-done (leb (length s) (at + width l)) 4 (done (record { first = m; period = 256 ^ l .coarse })) g h in
-    let (_, q) = need-done (isLayout l) 3 _ m f in
+    let (_, q) = needs-done (isWidth l) (isEpoch (l .epoch)) 3 7 _ m f in
     let (t, (c, j)) = given-done (timeOf l) (saysCounted (countAt s at (width l))) m q in
     record {
       layout = l;

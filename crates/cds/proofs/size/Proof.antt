@@ -1,29 +1,30 @@
 -- `cds::size` meets its contract.
-use mathlib.Core.Path.{sym, _∙_}
+use mathlib.Core.Path.{_≡_, sym, _∙_}
+use mathlib.Core.Bool.{true}
 use native.Mathlib.Omega.{arith}
 use borrow.Author.Needs.{needs}
-use Rattle.cds.specs.Inner.{Good}
-use Rattle.cds.proofs.Laws.{layout-good, width-is, width-none}
+use Rattle.cds.specs.Cds.{isWidth}
+use Rattle.cds.proofs.Laws.{widths, width-some, width-none}
 use Rattle.cds.proofs.size.Statement.{statement}
 use Rattle.cds.proofs.size.Tie as tie
 
-is-layout-requires : tie.Need-is-layout-requires
-is-layout-requires c κs = search needs
+is-width-requires : tie.Need-is-width-requires
+is-width-requires c κs = search needs
 
-good : (c : tie.Then1) → Good (c .before .before .args .l)
-good c = layout-good (c .before .before .args .l) (sym (c .before .is-layout .ensures) ∙ c .if1 .taken)
+wide : (c : tie.Then1) → isWidth (c .before .before .args .l) ≡ true
+wide c = sym (c .before .is-width .ensures) ∙ c .if1 .taken
 
 add-result : tie.Need-add-result
-add-result c = omega (arith, good (c .before) .day)
+add-result c = omega (arith, widths _ (wide (c .before)))
 
 add-result-2 : tie.Need-add-result-2
-add-result-2 c = omega (arith, good (c .before .before) .day, good (c .before .before) .part)
+add-result-2 c = omega (arith, widths _ (wide (c .before .before)))
 
 returns : tie.Need-returns
-returns c = let b = c .before .before in sym (width-is (b .before .before .args .l) (sym (b .before .is-layout .ensures) ∙ b .if1 .taken))
+returns c = let b = c .before .before in sym (width-some (b .before .before .args .l) (wide b))
 
 returns-2 : tie.Need-returns-2
-returns-2 c = sym (width-none (c .before .before .args .l) (sym (c .before .is-layout .ensures) ∙ c .if1 .left))
+returns-2 c = sym (width-none (c .before .before .args .l) (sym (c .before .is-width .ensures) ∙ c .if1 .left))
 
 pub size-spec : {M : Type 1} → statement M
-size-spec = tie.close (tie.spec is-layout-requires add-result add-result-2 returns returns-2)
+size-spec = tie.close (tie.spec is-width-requires add-result add-result-2 returns returns-2)

@@ -6,13 +6,11 @@ use native.Mathlib.Omega.{arith}
 use borrow.Author.Needs.{needs}
 use borrow.Author.Tests.{lt-ltb, le-ltb, eq-eqb, ne-eqb, not-true, not-false}
 use lib.Dec.{eqb, ltb}
-use lib.IntN.{ℤ, pos, negℤ}
-use Prim.Native.Nat.{_-_}
 use mir.Syntax.{w64}
 use mir.Val.{toZ, ofZ}
-use Rattle.base.specs.Parts.{within}
 use Rattle.base.proofs.Ladders.{need-yes, need-no}
 use Rattle.base.proofs.Signed.{back}
+use Rattle.cds.specs.Cds.{isEpochDay}
 use Rattle.codes.specs.PField.{ident, bit4, cdsLaid}
 use Rattle.codes.proofs.pfield.lay_cds.Statement.{statement}
 use Rattle.codes.proofs.pfield.lay_cds.Tie as tie
@@ -39,12 +37,12 @@ returns-2 c =
     let s = c .before .before in
     rw (lt-ltb (s .args .o % 4) 3 (omega arith), eq-eqb (bit4 (s .args .o)) 0 (omega arith))
 
-between-requires : tie.Need-between-requires
-between-requires c κs = search needs
+is-epoch-requires : tie.Need-is-epoch-requires
+is-epoch-requires c κs = search needs
 
 -- the epoch's test, at the epoch itself
-told : (c : tie.After-between) → within (negℤ (pos (2 ^ 24))) (pos (2 ^ 24 - 1)) (c .before .before .before .args .epoch) ≡ c .between .result
-told c = sym (rw (back w64 (c .before .before .before .args .epoch) (c .before .before .before .fits .epoch)) at (c .between .ensures))
+told : (c : tie.After-is-epoch) → isEpochDay (c .before .before .before .args .epoch) ≡ c .is-epoch .result
+told c = sym (rw (back w64 (c .before .before .before .args .epoch) (c .before .before .before .fits .epoch)) at (c .is-epoch .ensures))
 
 returns-3 : tie.Need-returns-3
 unfolding cdsLaid
@@ -70,6 +68,6 @@ lay-cds-spec =
     mul-part
     returns
     returns-2
-    between-requires
+    is-epoch-requires
     returns-3
     returns-4)

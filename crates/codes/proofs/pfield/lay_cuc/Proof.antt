@@ -6,13 +6,11 @@ use native.Mathlib.Omega.{arith}
 use borrow.Author.Needs.{needs}
 use borrow.Author.Tests.{lt-ltb, le-ltb, eq-eqb, ne-eqb, not-true, not-false}
 use lib.Dec.{eqb, ltb}
-use lib.IntN.{ℤ, pos, negℤ}
-use Prim.Native.Nat.{_-_}
 use mir.Syntax.{w64}
 use mir.Val.{toZ, ofZ}
-use Rattle.base.specs.Parts.{within}
 use Rattle.base.proofs.Ladders.{need-yes, need-no}
 use Rattle.base.proofs.Signed.{back}
+use Rattle.cuc.specs.Cuc.{isEpoch}
 use Rattle.codes.specs.PField.{ident, bit4, cucLaid}
 use Rattle.codes.proofs.pfield.lay_cuc.Statement.{statement}
 use Rattle.codes.proofs.pfield.lay_cuc.Tie as tie
@@ -30,12 +28,12 @@ returns : tie.Need-returns
 unfolding cucLaid
 returns c = rw (eq-eqb (ident (c .before .args .o)) 1 (c .if1 .taken))
 
-between-requires : tie.Need-between-requires
-between-requires c κs = search needs
+is-epoch-requires : tie.Need-is-epoch-requires
+is-epoch-requires c κs = search needs
 
 -- the epoch's test, at the epoch itself
-told : (c : tie.After-between) → within (negℤ (pos (2 ^ 40))) (pos (2 ^ 40 - 1)) (c .before .before .args .epoch) ≡ c .between .result
-told c = sym (rw (back w64 (c .before .before .args .epoch) (c .before .before .fits .epoch)) at (c .between .ensures))
+told : (c : tie.After-is-epoch) → isEpoch (c .before .before .args .epoch) ≡ c .is-epoch .result
+told c = sym (rw (back w64 (c .before .before .args .epoch) (c .before .before .fits .epoch)) at (c .is-epoch .ensures))
 
 returns-2 : tie.Need-returns-2
 unfolding cucLaid
@@ -51,4 +49,4 @@ returns-3 c =
 
 pub lay-cuc-spec : {M : Type 1} → statement M
 lay-cuc-spec =
-    tie.close (tie.spec cast-coarse add-coarse cast-fine returns between-requires returns-2 returns-3)
+    tie.close (tie.spec cast-coarse add-coarse cast-fine returns is-epoch-requires returns-2 returns-3)
