@@ -21,10 +21,10 @@ and-true false b e = let z : _≡_ {A = ℕ} 0 1 = cc in absurd (omega arith)
 -- what a good tag and window say of the numbers
 pub record Good (base period from to : ℕ) : Type 0 where
   pub some : 0 < period
-  pub short : period ≤ 2 ^ 32
-  pub based : base ≤ 2 ^ 43
-  pub starts : from ≤ 2 ^ 43
-  pub ends : to ≤ 2 ^ 43
+  pub short : period ≤ 2 ^ 63
+  pub based : base ≤ 2 ^ 63
+  pub starts : from ≤ 2 ^ 63
+  pub ends : to ≤ 2 ^ 63
 
 pub good-is : (base period from to : ℕ) → inReach base period from to ≡ true → Good base period from to
 unfolding inReach
@@ -44,7 +44,7 @@ good-is base period from to e =
 pub good-so : (base period from to : ℕ) → Good base period from to → inReach base period from to ≡ true
 unfolding inReach
 good-so base period from to g =
-    rw (le-leb 1 period (g .some), le-leb period (2 ^ 32) (g .short), le-leb base (2 ^ 43) (g .based), le-leb from (2 ^ 43) (g .starts), le-leb to (2 ^ 43) (g .ends))
+    rw (le-leb 1 period (g .some), le-leb period (2 ^ 63) (g .short), le-leb base (2 ^ 63) (g .based), le-leb from (2 ^ 63) (g .starts), le-leb to (2 ^ 63) (g .ends))
 
 module _ (base period : ℕ) where
   early : {x : ℕ} → x < base → names base period x ≡ false

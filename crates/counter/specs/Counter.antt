@@ -16,10 +16,10 @@ names base period x = leb base x && eqb ((x - base) % period) 0
 unfoldable pub countBelow : ℕ → ℕ → ℕ → ℕ
 countBelow base period x = (x - base + (period - 1)) / period
 
--- a period from 1 to 2^32, and seconds that a record's window can have
+-- a period from 1 to 2^63 and seconds to 2^63: a second and a period still make a sum of 64 bits
 unfoldable pub inReach : ℕ → ℕ → ℕ → ℕ → Bool
 inReach base period from to =
-    leb 1 period && (leb period (2 ^ 32) && (leb base (2 ^ 43) && (leb from (2 ^ 43) && leb to (2 ^ 43))))
+    leb 1 period && (leb period (2 ^ 63) && (leb base (2 ^ 63) && (leb from (2 ^ 63) && leb to (2 ^ 63))))
 
 -- all that is named from `from` on and before `to`; numbers out of reach are 7
 unfoldable pub listOf : ℕ → ℕ → ℕ → ℕ → ℕ → Outcome (Named ℤ)

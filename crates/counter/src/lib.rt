@@ -24,13 +24,12 @@ pub fn list(base: u64, period: u64, from: u64, to: u64, ticks: u64, out: &mut [i
 fn in_reach(base: u64, period: u64, from: u64, to: u64) -> bool
     ensures { λ r. ⌜ r ≡ inReach base period from to ⌝ }
 {
-    (1 <= period)
-        & ((period <= 4294967296)
-            & ((base <= 8796093022208) & ((from <= 8796093022208) & (to <= 8796093022208))))
+    let most = 9223372036854775808;
+    (1 <= period) & ((period <= most) & ((base <= most) & ((from <= most) & (to <= most))))
 }
 
 fn run(base: u64, period: u64, from: u64, to: u64, ticks: u64, out: &mut [i64]) -> Listing
-    requires { ⌜ (0 < period) × (period ≤ 2 ^ 32) × (base ≤ 2 ^ 43) × (from ≤ 2 ^ 43) × (to ≤ 2 ^ 43) ⌝ }
+    requires { ⌜ (0 < period) × (period ≤ 2 ^ 63) × (base ≤ 2 ^ 63) × (from ≤ 2 ^ 63) × (to ≤ 2 ^ 63) ⌝ }
     ensures { λ r. ⌜ Lists (done (record { ticks = ticks; all = map (loweredBy (2 ^ 41)) (namedIn (names base period) from to) })) (now (out .entry)) (now (out .exit)) r ⌝ }
 {
     let mut at = first(base, period, from);
@@ -57,7 +56,7 @@ fn run(base: u64, period: u64, from: u64, to: u64, ticks: u64, out: &mut [i64]) 
 
 // The first one named from `from` on.
 fn first(base: u64, period: u64, from: u64) -> u64
-    requires { ⌜ (0 < period) × (period ≤ 2 ^ 32) × (base ≤ 2 ^ 43) × (from ≤ 2 ^ 43) ⌝ }
+    requires { ⌜ (0 < period) × (period ≤ 2 ^ 63) × (base ≤ 2 ^ 63) × (from ≤ 2 ^ 63) ⌝ }
     ensures { λ r. ⌜ r ≡ base + countBelow base period from * period ⌝ }
 {
     base + below(base, period, from) * period
@@ -65,7 +64,7 @@ fn first(base: u64, period: u64, from: u64) -> u64
 
 // How many are named below x.
 fn below(base: u64, period: u64, x: u64) -> u64
-    requires { ⌜ (0 < period) × (period ≤ 2 ^ 32) × (x ≤ 2 ^ 43) ⌝ }
+    requires { ⌜ (0 < period) × (period ≤ 2 ^ 63) × (x ≤ 2 ^ 63) ⌝ }
     ensures { λ r. ⌜ r ≡ countBelow base period x ⌝ }
 {
     if x <= base {

@@ -65,7 +65,7 @@ tag-with s at l g h =
     (record {
       valid = good-within (2 ^ 41) m (lit< tt) (read-valid s at l m f);
       some = power-pos (l .coarse);
-      short = power-le (l .coarse) 4 (field-told s at l m f .good .narrow);
+      short = omega (arith, power-le (l .coarse) 4 (field-told s at l m f .good .narrow));
     })
 
 tag-in : (s : List ℕ) (at : ℕ) (l : Layout) (g : Periodic) → tagIn s at l ≡ done g → Short g

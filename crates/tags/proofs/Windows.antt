@@ -63,7 +63,7 @@ unfolding endsOf
 ends-refused from to k n y h = windowed-refused from to _ y n h
 
 -- an end is within the counter's reach
-pub start-low : (k : ℕ) (t : Time) → isRecord t ≡ true → startAt (2 ^ 41) k t ≤ 2 ^ 43
+pub start-low : (k : ℕ) (t : Time) → isRecord t ≡ true → startAt (2 ^ 41) k t ≤ 2 ^ 63
 unfolding startAt
 start-low k t v =
     let w : Within (2 ^ 41) t = good-within (2 ^ 41) t (lit< tt) v in

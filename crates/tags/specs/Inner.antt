@@ -15,4 +15,4 @@ saysPeriodic (P.the-variants.Refused why) = refused (number why)
 pub record Short (g : Periodic) : Type 0 where
   pub valid : Within (2 ^ 41) (g .first)
   pub some : 0 < g .period
-  pub short : g .period ≤ 2 ^ 32
+  pub short : g .period ≤ 2 ^ 63
