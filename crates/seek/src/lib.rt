@@ -12,7 +12,7 @@ use window::Listing;
 ghost use mathlib.Core.Path.{_≡_};
 ghost use mathlib.Core.Bool.{true, false, _&&_};
 ghost use mathlib.Core.List.{map};
-ghost use Prim.Native.Nat.{ℕ, _≤_, _<_, min};
+ghost use Prim.Native.Nat.{ℕ, _-_, _≤_, _<_, min};
 ghost use Rattle.base.specs.Outcome.{done};
 ghost use Rattle.base.specs.Parts.{loweredBy};
 ghost use Rattle.calendar.specs.Gregorian.{ordinalOn, dateIn};
@@ -60,18 +60,27 @@ pub fn list(tag: Tag, from: u64, to: u64, out: &mut [i64]) -> Listing
     if 63902822501 < to {
         return Listing::Refused(Refusal::Uncovered);
     }
-    run(tag, from, to, out)
+    if to <= from {
+        return Listing::Done {
+            ticks: tag.ticks,
+            count: 0,
+            more: false,
+        };
+    }
+    let last = reading_of(to - 1);
+    run(tag, from, to, last, out)
 }
 
-// Searches again and again, each time from one second past the last moment found.
-fn run(tag: Tag, from: u64, to: u64, out: &mut [i64]) -> Listing
-    requires { ⌜ (62198668874 ≤ from) × (to ≤ 63902822501) ⌝ }
+// Searches again and again, each time from one second past the last moment found. The window's last second has the
+// reading `last`.
+fn run(tag: Tag, from: u64, to: u64, last: Reading, out: &mut [i64]) -> Listing
+    requires { ⌜ (62198668874 ≤ from) × (to ≤ 63902822501) × (readingAt builtin (to - 1) ≡ done last) ⌝ }
     ensures { λ r. ⌜ Lists (done (record { ticks = tag .ticks; all = map (loweredBy secondRaise) (namedIn (names builtin tag) from to) })) (now (out .entry)) (now (out .exit)) r ⌝ }
 {
     let mut at = from;
     let mut n: usize = 0;
     loop {
-        let f = next(tag, at, to);
+        let f = next(tag, at, to, last);
         let Found::At(x) = f else {
             return Listing::Done {
                 ticks: tag.ticks,
@@ -95,15 +104,14 @@ fn run(tag: Tag, from: u64, to: u64, out: &mut [i64]) -> Listing
 
 // The first moment from `from` on and before `to`. A day's begin and length are asked only of a day that fits, and its
 // seconds are looked at up to its end or the window's.
-fn next(tag: Tag, from: u64, to: u64) -> Found
-    requires { ⌜ (62198668874 ≤ from) × (to ≤ 63902822501) ⌝ }
+fn next(tag: Tag, from: u64, to: u64, last: Reading) -> Found
+    requires { ⌜ (62198668874 ≤ from) × (to ≤ 63902822501) × (readingAt builtin (to - 1) ≡ done last) ⌝ }
     ensures { λ r. ⌜ r ≡ firstOf (namedIn (names builtin tag) from to) ⌝ }
 {
     if to <= from {
         return Found::Nothing;
     }
     let first = reading_of(from);
-    let last = reading_of(to - 1);
     let mut day = first.day;
     let mut s = first.second;
     let found = 'days: loop {

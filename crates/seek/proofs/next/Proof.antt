@@ -4,8 +4,10 @@ use mathlib.Core.Logic.{⊎-elim}
 use mathlib.Core.Path.{_≡_, sym, ap, _∙_}
 use Prim.Native.Nat.{ℕ, _+_, _-_, _≤_}
 use native.Mathlib.Omega.{arith}
+use Rattle.base.specs.Outcome.{done}
 use Rattle.leap.specs.declared.Day.{Day}
-use Rattle.leap.specs.Table.{start, dayLength, covers, dayOn}
+use Rattle.leap.specs.declared.Reading.{Reading}
+use Rattle.leap.specs.Table.{start, dayLength, covers, readingAt, dayOn}
 use Rattle.leap.specs.Builtin.{builtin}
 use Rattle.leap.proofs.Builtin.{builtin-good}
 use Rattle.leap.proofs.Days.{start-mono, length-range}
@@ -35,22 +37,23 @@ returns c = sym (first-none (names builtin (c .before .args .tag)) (λ k l h. ab
 reading-of-requires : tie.Need-reading-of-requires Inv-fields μ-fields Inv-days μ-days
 reading-of-requires c κs = omega arith
 
-sub-reading-of : tie.Need-sub-reading-of Inv-fields μ-fields Inv-days μ-days
-sub-reading-of c = omega arith
+-- the reading of the window's last second
+abbrev last-of : tie.After-reading-of Inv-fields μ-fields Inv-days μ-days → Reading
+last-of c = c .before .before .args .last
 
-reading-of-requires-2 : tie.Need-reading-of-requires-2 Inv-fields μ-fields Inv-days μ-days
-reading-of-requires-2 c κs = omega arith
+last-is : (c : tie.After-reading-of Inv-fields μ-fields Inv-days μ-days) → readingAt builtin (c .before .before .args .to - 1) ≡ done (last-of c)
+last-is c = c .before .before .pre .2
 
 days-holds : tie.Need-days-holds Inv-fields μ-fields Inv-days μ-days
-days-holds c = let r = c .before in (omega arith, search-start builtin builtin-good _ _ _ (r .reading-of .result) (r .reading-of .ensures))
+days-holds c = (omega arith, search-start builtin builtin-good _ _ _ (c .reading-of .result) (c .reading-of .ensures))
 
 -- the day is a covered one
 in-table : (c : tie.Else2 Inv-fields μ-fields Inv-days μ-days) → covers builtin (c .before .before .days .day) ≡ true
 in-table c =
     let d = c .before .before in
     let l = d .before in
-    let a = read-is builtin builtin-good _ (l .before .reading-of .result) (l .before .reading-of .ensures) in
-    let b = read-is builtin builtin-good _ (l .reading-of2 .result) (l .reading-of2 .ensures) in
+    let a = read-is builtin builtin-good _ (l .reading-of .result) (l .reading-of .ensures) in
+    let b = read-is builtin builtin-good _ (last-of l) (last-is l) in
     covers-between builtin _ _ (d .days .day) (a .covered) (b .covered) (d .days .inv .0) (c .if2 .left)
 
 day-fits-requires : tie.Need-day-fits-requires Inv-fields μ-fields Inv-days μ-days
@@ -67,8 +70,8 @@ sub-lesser : tie.Need-sub-lesser Inv-fields μ-fields Inv-days μ-days
 sub-lesser c =
     let s = c .before in
     let l = s .before .before .before .before .before .before in
-    let w = read-is builtin builtin-good _ (l .reading-of2 .result) (l .reading-of2 .ensures) in
-    omega (arith, span-is _ _ (s .span-of .ensures) .0, w .exact, start-mono builtin builtin-good _ (l .reading-of2 .result .day) (s .before .before .before .if2 .left))
+    let w = read-is builtin builtin-good _ (last-of l) (last-is l) in
+    omega (arith, span-is _ _ (s .span-of .ensures) .0, w .exact, start-mono builtin builtin-good _ (last-of l .day) (s .before .before .before .if2 .left))
 
 lesser-requires : tie.Need-lesser-requires Inv-fields μ-fields Inv-days μ-days
 lesser-requires c κs = tt
@@ -85,8 +88,8 @@ skip-requires c κs =
     let l = c .before .before in
     omega (arith, l .lesser .ensures, span-is _ _ (l .before .before .span-of .ensures), length-range builtin builtin-good (l .before .before .before .before .before .before .before .days .day))
 
-add-t19 : tie.Need-add-t19 Inv-fields μ-fields Inv-days μ-days
-add-t19 c = let l = c .before .before .before .before .before in omega (arith, l .lesser .ensures)
+add-t18 : tie.Need-add-t18 Inv-fields μ-fields Inv-days μ-days
+add-t18 c = let l = c .before .before .before .before .before in omega (arith, l .lesser .ensures)
 
 fields-less : tie.Need-fields-less Inv-fields μ-fields Inv-days μ-days
 fields-less c = omega (arith, c .before .skip .ensures .on, c .if4 .left)
@@ -117,7 +120,7 @@ returns-2 : tie.Need-returns-2 Inv-fields μ-fields Inv-days μ-days
 returns-2 c =
     let d = c .before .before in
     let r = d .before in
-    sym (first-none _ (search-end builtin builtin-good _ _ _ (d .days .day) (d .days .s) (r .reading-of2 .result) (r .reading-of2 .ensures) (c .if2 .taken) (d .days .inv .1)))
+    sym (first-none _ (search-end builtin builtin-good _ _ _ (d .days .day) (d .days .s) (last-of r) (last-is r) (c .if2 .taken) (d .days .inv .1)))
 
 returns-3 : tie.Need-returns-3 Inv-fields μ-fields Inv-days μ-days
 returns-3 c =
@@ -141,8 +144,6 @@ next-spec =
     μ-days
     returns
     reading-of-requires
-    sub-reading-of
-    reading-of-requires-2
     days-holds
     day-fits-requires
     span-of-requires
@@ -150,7 +151,7 @@ next-spec =
     lesser-requires
     fields-holds
     skip-requires
-    add-t19
+    add-t18
     fields-less
     fields-again
     add-day

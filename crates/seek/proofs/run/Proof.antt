@@ -24,17 +24,17 @@ abbrev signed : ℕ → ℤ
 signed = loweredBy secondRaise
 
 abbrev Inv-loop : tie.InvT-loop
-Inv-loop tag from to out₀ at₀ n₀ out at n =
+Inv-loop tag from to last out₀ at₀ n₀ out at n =
     Lister signed (names builtin tag) from to at n out₀ out × (62198668874 ≤ at)
 
 abbrev μ-loop : tie.MeasureT-loop
-μ-loop tag from to out₀ at₀ n₀ out at n = to - at
+μ-loop tag from to last out₀ at₀ n₀ out at n = to - at
 
 loop-holds : tie.Need-loop-holds Inv-loop μ-loop
 loop-holds c = (lister-start signed (names builtin (c .args .tag)) (c .args .from) (c .args .to) (c .args .out .now), omega arith)
 
 next-requires : tie.Need-next-requires Inv-loop μ-loop
-next-requires c κs = (c .loop .inv .1, omega arith)
+next-requires c κs = (c .loop .inv .1, c .before .pre .1, c .before .pre .2)
 
 enum-known-f : tie.Need-enum-known-f Inv-loop μ-loop
 enum-known-f c = search needs
