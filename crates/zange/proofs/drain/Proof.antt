@@ -1,9 +1,9 @@
 -- `zange::drain` meets its contract.
-use Rattle.zange.proofs.drain.Statement.{statement}
+use borrow.Author.Needs.{needs}
 use mathlib.Core.Path.{_≡_}
 use Prim.Native.Nat.{_-_, _≤_}
 use lib.ListN.{length}
-use borrow.Author.Needs.{needs}
+use Rattle.zange.proofs.drain.Statement.{statement}
 use Rattle.zange.proofs.drain.Tie as tie
 
 abbrev Inv-loop : tie.InvT-loop
@@ -27,6 +27,9 @@ part-feed-end c = search needs
 feed-requires : tie.Need-feed-requires Inv-loop μ-loop
 feed-requires c κs = search needs
 
+dropped-requires : tie.Need-dropped-requires Inv-loop μ-loop
+dropped-requires c κs = search needs
+
 same-length : tie.Need-same-length Inv-loop μ-loop
 same-length c = search needs
 
@@ -36,17 +39,17 @@ returns c = search needs
 add-at : tie.Need-add-at Inv-loop μ-loop
 add-at c = search needs
 
-slice-reshare-prefix-write-all : tie.Need-slice-reshare-prefix-write-all Inv-loop μ-loop
-slice-reshare-prefix-write-all c = search needs
+slice-reshare-prefix-write-out : tie.Need-slice-reshare-prefix-write-out Inv-loop μ-loop
+slice-reshare-prefix-write-out c = search needs
 
-slice-aggregate-write-all : tie.Need-slice-aggregate-write-all Inv-loop μ-loop
-slice-aggregate-write-all c = search needs
+slice-aggregate-write-out : tie.Need-slice-aggregate-write-out Inv-loop μ-loop
+slice-aggregate-write-out c = search needs
 
-write-all-requires : tie.Need-write-all-requires Inv-loop μ-loop
-write-all-requires c κs = search needs
+write-out-requires : tie.Need-write-out-requires Inv-loop μ-loop
+write-out-requires c κs = search needs
 
-start-requires : tie.Need-start-requires Inv-loop μ-loop
-start-requires c κs = search needs
+dropped-requires-2 : tie.Need-dropped-requires-2 Inv-loop μ-loop
+dropped-requires-2 c κs = search needs
 
 same-length-2 : tie.Need-same-length-2 Inv-loop μ-loop
 same-length-2 c = search needs
@@ -77,13 +80,14 @@ drain-spec =
     part-feed-start
     part-feed-end
     feed-requires
+    dropped-requires
     same-length
     returns
     add-at
-    slice-reshare-prefix-write-all
-    slice-aggregate-write-all
-    write-all-requires
-    start-requires
+    slice-reshare-prefix-write-out
+    slice-aggregate-write-out
+    write-out-requires
+    dropped-requires-2
     same-length-2
     returns-2
     loop-less
