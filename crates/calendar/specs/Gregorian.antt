@@ -17,11 +17,11 @@ kind y = cond (eqb (y % 4) 0) (cond (eqb (y % 100) 0) (cond (eqb (y % 400) 0) 1 
 abbrev pub yearLength : ℕ → ℕ
 yearLength y = 365 + kind y
 
--- the days of the first n years
+-- the days of the first n years: `next-start` (proofs/Years) has each year add its length
 unfoldable pub yearStart : ℕ → ℕ
 yearStart n = 365 * n + n / 4 + n / 400 - n / 100
 
--- the whole years before day n: the estimate by the mean year, or one more
+-- the whole years before day n: the estimate by the mean year, or one more; `years-hold` (proofs/Years) has day n in the year after them
 unfoldable pub yearsTo : ℕ → ℕ
 yearsTo n = let y = n * 400 / 146097 in cond (leb (yearStart (y + 1)) n) (y + 1) y
 

@@ -65,7 +65,7 @@ module _ (l : Layout) (g : Good l) (r : Time) (k : r .ticks < perSecond) where
     counted =
         let d : r .sec -ℤ l .epoch ≡ pos n = same (r .sec -ℤ l .epoch) (pos n) (omega (arith, difference (r .sec) (l .epoch))) in
         let s : since l r ≡ pos (n * perSecond + r .ticks) = since-is l r ∙ ap (λ (z : ℤ). z *ℤ pos perSecond +ℤ pos (r .ticks)) d in
-        ap (λ (z : ℤ). plus (floor z (unit (l .fine)))) s ∙ count-units (l .fine) (g .short) n (r .ticks)
+        rw s (count-units (l .fine) (g .short) n (r .ticks))
 
     pub in-field : n < 256 ^ l .coarse → In (n * 256 ^ l .fine + r .ticks / unit (l .fine)) ≡ seatIn l r
     unfolding seatIn

@@ -9,9 +9,9 @@ use lib.IntN.{ℤ, pos, _+ℤ_, _-ℤ_}
 use lib.Pow.{pow-add}
 use lib.Signed.{leZ}
 use Rattle.base.specs.Parts.{plus, minus}
-use Rattle.base.proofs.Signed.{same, sum, difference, line, apart, le-so, le-yes, within-yes}
-use Rattle.scale.specs.Time.{Time, perSecond, worth, ofTicks, isRecord}
-use Rattle.scale.proofs.Laws.{worth-parts, ofTicks-worth, worth-ofTicks, within-good}
+use Rattle.base.proofs.Signed.{same, sum, difference, line, apart, rest-lt, le-so, le-yes, within-yes}
+use Rattle.scale.specs.Time.{Time, perSecond, worth, isRecord}
+use Rattle.scale.proofs.Laws.{worth-parts, worth-one, worth-ofTicks, within-good}
 use Rattle.cuc.specs.Cuc.{unit, epochTicks, timeOf, since, holds}
 use Rattle.cuc.specs.Inner.{Good}
 use Rattle.cuc.specs.declared.Layout.{Layout}
@@ -34,7 +34,11 @@ line-le-is e a b h = omega (arith, le-yes (e +ℤ pos a) (e +ℤ pos b) h, sum e
 module _ (l : Layout) (t : ℕ) where
   pub worth-time : worth (timeOf l t) ≡ epochTicks l +ℤ pos (t * unit (l .fine))
   unfolding timeOf
-  worth-time = worth-ofTicks (epochTicks l +ℤ pos (t * unit (l .fine)))
+  worth-time = worth-ofTicks _
+
+  ticks-lt : timeOf l t .ticks < perSecond
+  unfolding timeOf
+  ticks-lt = rest-lt (epochTicks l +ℤ pos (t * unit (l .fine))) (lit< tt)
 
   pub since-time : since l (timeOf l t) ≡ pos (t * unit (l .fine))
   since-time = ap (λ (z : ℤ). z -ℤ epochTicks l) worth-time ∙ gap-back (epochTicks l) (t * unit (l .fine))
@@ -42,12 +46,11 @@ module _ (l : Layout) (t : ℕ) where
 module _ (l : Layout) (g : Good l) (t : ℕ) where
   -- its seconds and its ticks
   pub time-is : (r : Time) → plus (r .sec) + minus (l .epoch) ≡ minus (r .sec) + (plus (l .epoch) + t / 256 ^ l .fine) → r .ticks ≡ t % 256 ^ l .fine * unit (l .fine) → timeOf l t ≡ r
-  unfolding timeOf
   time-is r s k =
-      ap ofTicks
-      (same (epochTicks l +ℤ pos (t * unit (l .fine))) (worth r)
+      worth-one (timeOf l t) r (ticks-lt l t) (rw k (part-lt (l .fine) (g .short) t))
+      (worth-time l t
+      ∙ same (epochTicks l +ℤ pos (t * unit (l .fine))) (worth r)
       (omega (arith, line (l .epoch) perSecond (t * unit (l .fine)), worth-parts r, units (l .fine) (g .short) t)))
-      ∙ ofTicks-worth r (rw k (part-lt (l .fine) (g .short) t))
 
 module _ (l : Layout) (g : Good l) (t : ℕ) (lt : t < 256 ^ (l .coarse + l .fine)) where
   pub seconds-lt : t / 256 ^ l .fine < 256 ^ l .coarse

@@ -161,8 +161,8 @@ fn answer_held(line: Line, out: &mut [u8]) -> usize
     ensures { λ r. ⌜ (r ≡ length (answerOf (heldOf line))) × (now (out .exit) ≡ pasted (now (out .entry)) 0 (answerOf (heldOf line))) ⌝ }
 {
     let bytes = line.bytes;
-    let n = least(line.len, 65);
-    answer(&bytes[..n], out, 0)
+    let len = least(line.len, 65);
+    answer(&bytes[..len], out, 0)
 }
 
 // What is printed for one line, into out from `at` on; and where that ends.

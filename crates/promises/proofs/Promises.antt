@@ -100,7 +100,7 @@ unfolding pasted
 written-first o code h out =
     rw (h, zero-add) (take-at code (drop (length code) out) (length code) refl, drop-at code (drop (length code) out) (length code) refl)
 
--- "A later source never gets an earlier time"
+-- "Under one setting and epoch, a later source never gets an earlier time"
 pub later-never-earlier : (setting : Setting) (r r' : Time) (out out' code code' : List ℕ) (m m' : Time)
     → written r setting out ≡ done code → written r' setting out' ≡ done code' → readBy setting code ≡ done m → readBy setting code' ≡ done m'
     → NotAfter r r' → NotAfter m m'
@@ -111,7 +111,7 @@ later-never-earlier setting r r' out out' code code' m m' w w' h h' n =
     let i' : x' ≡ m' = done-is x' m' (sym (S.alone setting code' x' (y' .reads)) ∙ h') in
     rw (← i, ← i') (later-source (Holdable setting) r x (y .latest) r' x' (y' .latest) n)
 
--- "Writing what was read, with the same settings and epoch, gives the same bytes"
+-- "Given room, writing what was read, with the same settings and epoch, gives the same bytes"
 pub same-bytes : (setting : Setting) (s out : List ℕ) (m : Time) → OfSetting setting s → readBy setting s ≡ done m → length (codeIn setting s) ≤ length out → written m setting out ≡ done (codeIn setting s)
 same-bytes = S.back
 
@@ -130,6 +130,6 @@ codes-second-apart setting setting' s s' m m' day h h' a b t =
     (Z.midnight-after (m .sec) (m' .sec) (a .utc) (b .utc) (a .reading) (b .reading) (a .at) (b .on ∙ ap (λ (z : ℤ). z +ℤ pos 1) (sym (a .on))) (b .at)) t
 
 -- ==== 3, for CUC and ASCII tags
--- "A shortened tag can mean many moments: list exactly those in a window that it names by the published code, ascending, each once, the earliest first when room runs out, and say "more" exactly when a further one remains"
+-- "A shortened tag (a CUC code whose counter wraps, or an ASCII subset with its left part dropped) can mean many moments. Given the tag, its epoch if it is CUC, and a window, which for ASCII lies inside the table's days, we list exactly the moments in the window that the tag names by the published code: ascending, each once, the earliest first when room runs out. "More" is said exactly when a further one remains"
 pub lists : (tag : Shortened) (from to : Time) (entry : List ℤ) (answer : Listed) → given (listed entry) (listBy tag from to) ≡ done answer → Lists tag from to entry (leaves (listBy tag from to) entry) answer
 lists = T.lists-by

@@ -120,7 +120,7 @@ OfSetting (Binary p e true) s = getD s 0 0 ≡ p
 OfSetting (Binary p e false) s = Unit {0}
 OfSetting (Ascii l) s = layoutOf s ≡ l
 
--- "the time[s] the target can hold": those that some bytes of the setting read to
+-- a "time the target can hold": one that some bytes of the setting read to
 abbrev pub Holdable : Setting → Time → Type 0
 Holdable setting x = (s : List ℕ) × (OfSetting setting s) × (readBy setting s ≡ done x)
 
@@ -204,7 +204,7 @@ pub record Shows (m : Time) (day : ℤ) (x : ℕ) : Type 0 where
 abbrev pub SecondApart : List ℕ → List ℕ → Type 0
 SecondApart s s' = (m m' : Time) × (text s ≡ done m) × (text s' ≡ done m') × (differenceOf m' m ≡ done second)
 
--- ---- "A shortened tag can mean many moments"
+-- ---- "A shortened tag (a CUC code whose counter wraps, or an ASCII subset with its left part dropped) can mean many moments"
 -- a tag as it is handed over: a CUC tag with its P octet, in front or apart, and epoch; or an ASCII tag
 pub data Shortened : Type 0 where
   counter : List ℕ → Preamble → ℤ → Shortened
@@ -222,7 +222,7 @@ octetOf Front s = getD s 0 0
 abbrev pub coarse : ℕ → ℕ
 coarse o = o / 4 % 4 + 1
 
--- m is "epoch + T + k × 256^c seconds for [some] whole k of 0 or more": epoch + T is what the tag, as a code, reads to
+-- m is "epoch + T + k × 256^c seconds" for some "whole k of 0 or more": epoch + T is what the tag, as a code, reads to
 pub record Counted (s : List ℕ) (p : Preamble) (e : ℤ) (m : Time) : Type 0 where
   pub first : Time
   pub reads : scanOf s p e ≡ done (scanned (length s) first)
@@ -244,7 +244,7 @@ pub record Wanted (tag : Shortened) (from to m : Time) : Type 0 where
   pub inside : Inside from to m
 
 pub record Lists (tag : Shortened) (from to : Time) (entry exit : List ℤ) (answer : Listed) : Type 0 where
-  -- "exactly those in a window that it names": all of them, and nothing else ..
+  -- "exactly the moments in the window that the tag names": all of them, and nothing else ..
   pub all : List ℤ
   pub exactly : (m : Time) → ((m .ticks ≡ answer .ticks) × Among (m .sec) all) ↔ Wanted tag from to m
   -- ".. ascending, each once"
@@ -254,7 +254,7 @@ pub record Lists (tag : Shortened) (from to : Time) (entry exit : List ℤ) (ans
   pub first : shown answer exit ≡ take (answer .count) all
   -- "the earliest first when room runs out": a named moment that is not listed is later than all that are, and the room is full
   pub earliest : (m : Time) → Wanted tag from to m → (Among (m .sec) (shown answer exit) → ⊥) → (answer .count ≡ length entry) × ((z : ℤ) → Among z (shown answer exit) → Sooner z (m .sec))
-  -- "say "more" exactly when a further one remains"
+  -- ""More" is said exactly when a further one remains"
   pub more : (answer .more ≡ true) ↔ ((m : Time) × (Wanted tag from to m × (Among (m .sec) (shown answer exit) → ⊥)))
   -- "Elements beyond the number listed stay"
   pub stay : drop (answer .count) exit ≡ drop (answer .count) entry

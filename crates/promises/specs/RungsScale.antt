@@ -1,4 +1,4 @@
--- Difference and shift (document 01: "7: invalid record, span or epoch; a shift's sum .. out of range").
+-- Difference and shift (document 01, 7: "invalid record, span or epoch; a shift's sum .. out of range").
 use mathlib.Core.List.{List, [], _∷_}
 use lib.IntN.{_+ℤ_}
 use Rattle.scale.specs.Time.{Time, worth, ofTicks, isRecord, isSpan}

@@ -1,13 +1,17 @@
--- Document 01's half second, and the ends of the ranges, by computation.
+-- Document 01's ticks and its half second, and the ends of the ranges, by computation.
 use mathlib.Core.Path.{_≡_, refl}
-use Prim.Native.Nat.{ℕ}
+use Prim.Native.Nat.{ℕ, _*_, _^_}
 use lib.IntN.{ℤ, pos, negsuc}
 use Rattle.base.specs.Parts.{within}
 use Rattle.base.specs.Outcome.{done, refused}
-use Rattle.scale.specs.Time.{Time, good, recordOf, spanOf, differenceOf, shiftOf}
+use Rattle.scale.specs.Time.{Time, perSecond, good, recordOf, spanOf, differenceOf, shiftOf}
 
 abbrev time : ℤ → ℕ → Time
 time s n = record { sec = s; ticks = n }
+
+-- "A second has 4,096,000,000,000,000 ticks, so 2^-24 s is 244,140,625 ticks and a picosecond is 4,096"
+units : (2 ^ 24 * 244140625 ≡ perSecond) × (10 ^ 12 * 4096 ≡ perSecond)
+units = (refl, refl)
 
 -- "minus half a second is -1 s and 2,048,000,000,000,000 ticks"
 half : differenceOf (time (pos 0) 0) (time (pos 0) 2048000000000000) ≡ done (time (negsuc 0) 2048000000000000)

@@ -8,27 +8,18 @@ use lib.Seq.{take-at}
 use Rattle.octets.specs.Places.{digits}
 use Rattle.calendar.specs.Gregorian.{ordinalOn, dateIn}
 use Rattle.ascii.specs.declared.Layout.{Layout}
-use Rattle.ascii.specs.Quoted.{bytes}
 use Rattle.clock.specs.Clock.{minuteOf}
 use Rattle.ascii.specs.Ascii.{frontOf, dayText, clockText, fractionText, zoneText, codeText}
 use Rattle.ascii.proofs.Texts.{digits-length}
 use Rattle.ascii.proofs.Back.{code-shaped}
-use Rattle.tag.specs.Shortening.{Subfield, subfield, calendarBy, digitsBy, clockFrom, calendarOf, clockOf, zoneOf}
+use Rattle.tag.specs.Shortening.{Subfield, byOrdinal, byMonth, byClock, calendarBy, clockFrom, calendarOf, clockOf, zoneOf}
 
 abbrev pub dated : Bool → ℕ → List Subfield
-dated true n =
-    subfield [] (digits 4 (ordinalOn n .year)) (bytes "0001") ∷ subfield (bytes "-") (digits 3 (ordinalOn n .day)) (bytes "001") ∷ []
-dated false n =
-    subfield [] (digits 4 (dateIn (ordinalOn n) .year)) (bytes "0001") ∷
-    subfield (bytes "-") (digits 2 (dateIn (ordinalOn n) .month)) (bytes "01") ∷
-    subfield (bytes "-") (digits 2 (dateIn (ordinalOn n) .day)) (bytes "01") ∷ []
+dated true n = byOrdinal (digits 4 (ordinalOn n .year)) (digits 3 (ordinalOn n .day))
+dated false n = byMonth (digits 4 (dateIn (ordinalOn n) .year)) (digits 2 (dateIn (ordinalOn n) .month)) (digits 2 (dateIn (ordinalOn n) .day))
 
 abbrev pub clocked : ℕ → List ℕ → List Subfield
-clocked x ds =
-    subfield [] (digits 2 (minuteOf x / 60)) (bytes "00") ∷
-    subfield (bytes ":") (digits 2 (minuteOf x % 60)) (bytes "00") ∷
-    subfield (bytes ":") (digits 2 (x - minuteOf x * 60)) (bytes "00") ∷
-    digitsBy (bytes ".") ds
+clocked x ds = byClock (digits 2 (minuteOf x / 60)) (digits 2 (minuteOf x % 60)) (digits 2 (x - minuteOf x * 60)) ds
 
 -- the fraction's digits, behind the period
 digits-in : (d f : ℕ) (z : List ℕ) → take d (drop 1 (fractionText d f ++ z)) ≡ digits d f

@@ -24,26 +24,34 @@ subfield b s l = record { before = b; text = s; lowest = l }
 abbrev pub slice : List ℕ → ℕ → ℕ → List ℕ
 slice s at w = take w (drop at s)
 
+-- the subfields of a calendar, of the texts of its year and day of the year, or of its year, month and day
+abbrev pub byOrdinal : List ℕ → List ℕ → List Subfield
+byOrdinal y d = subfield [] y (bytes "0001") ∷ subfield (bytes "-") d (bytes "001") ∷ []
+
+abbrev pub byMonth : List ℕ → List ℕ → List ℕ → List Subfield
+byMonth y m d = subfield [] y (bytes "0001") ∷ subfield (bytes "-") m (bytes "01") ∷ subfield (bytes "-") d (bytes "01") ∷ []
+
 -- the calendar of a full code: YYYY-DDD or YYYY-MM-DD
 abbrev pub calendarBy : Bool → List ℕ → List Subfield
-calendarBy true s = subfield [] (slice s 0 4) (bytes "0001") ∷ subfield (bytes "-") (slice s 5 3) (bytes "001") ∷ []
-calendarBy false s =
-    subfield [] (slice s 0 4) (bytes "0001") ∷
-    subfield (bytes "-") (slice s 5 2) (bytes "01") ∷
-    subfield (bytes "-") (slice s 8 2) (bytes "01") ∷ []
+calendarBy true s = byOrdinal (slice s 0 4) (slice s 5 3)
+calendarBy false s = byMonth (slice s 0 4) (slice s 5 2) (slice s 8 2)
 
 -- the digits of a fraction, the first behind the period
 abbrev pub digitsBy : List ℕ → List ℕ → List Subfield
 digitsBy sep [] = []
 digitsBy sep (d ∷ ds) = subfield sep (d ∷ []) (bytes "0") ∷ digitsBy [] ds
 
+-- the subfields of a time, of the texts of its hour, minute, second and fraction
+abbrev pub byClock : List ℕ → List ℕ → List ℕ → List ℕ → List Subfield
+byClock h m x ds =
+    subfield [] h (bytes "00") ∷
+    subfield (bytes ":") m (bytes "00") ∷
+    subfield (bytes ":") x (bytes "00") ∷
+    digitsBy (bytes ".") ds
+
 -- the time of a full code: hh:mm:ss from a place on, and its fraction
 abbrev pub clockFrom : ℕ → ℕ → List ℕ → List Subfield
-clockFrom at digits s =
-    subfield [] (slice s at 2) (bytes "00") ∷
-    subfield (bytes ":") (slice s (at + 3) 2) (bytes "00") ∷
-    subfield (bytes ":") (slice s (at + 6) 2) (bytes "00") ∷
-    digitsBy (bytes ".") (slice s (at + 9) digits)
+clockFrom at digits s = byClock (slice s at 2) (slice s (at + 3) 2) (slice s (at + 6) 2) (slice s (at + 9) digits)
 
 unfoldable pub calendarOf : List ℕ → List Subfield
 calendarOf s = calendarBy (layoutOf s .ordinal) s

@@ -75,7 +75,7 @@ room : (c : tie.Else1 Inv-loop μ-loop) → c .before .before .before .before .b
 room c = let l = c .before .before .before .before .before .loop in omega (arith, l .inv .0 .same, l .inv .0 .roomy, c .if1 .left)
 
 add-lowered : tie.Need-add-lowered Inv-loop μ-loop
-add-lowered c = omega (arith, least (c .before .before) .before)
+add-lowered c = let l = least (c .before .before) in omega (arith, l .from, l .before)
 
 lowered-requires : tie.Need-lowered-requires Inv-loop μ-loop
 lowered-requires c κs = search needs
