@@ -4,7 +4,7 @@ mod common;
 
 use common::codes::{any_bytes, FIRST_DAY, LAST_DAY};
 use common::texts::{any_characters, any_digits, damage, date, plain_time, settings, text, Texts};
-use common::{after, Tally};
+use common::{after, fewer, Tally};
 use honigzange::{raw, AsciiSetting, Record, Refusal};
 use second::ascii;
 use second::rng::Rng;
@@ -35,7 +35,7 @@ fn compare(rng: &mut Rng, tally: &mut Tally, text: &[u8]) {
 #[test]
 fn every_shape() {
     let (mut rng, mut tally, texts) = (Rng::new(81), Tally::default(), Texts::new());
-    let each = 500;
+    let each = fewer(500);
     for setting in settings() {
         for _ in 0..each {
             let text = texts.good_text(&mut rng, setting);
@@ -66,7 +66,7 @@ fn every_shape() {
 fn every_change_of_one_byte() {
     let (mut rng, mut tally, texts) = (Rng::new(82), Tally::default(), Texts::new());
     for setting in settings() {
-        for _ in 0..4 {
+        for _ in 0..fewer(4) {
             let mut text = texts.good_text(&mut rng, setting);
             for place in 0..text.len() {
                 let kept = text[place];
@@ -86,7 +86,7 @@ fn every_change_of_one_byte() {
 fn every_byte_inserted() {
     let (mut rng, mut tally, texts) = (Rng::new(83), Tally::default(), Texts::new());
     for setting in settings() {
-        for _ in 0..2 {
+        for _ in 0..fewer(2) {
             let text = texts.good_text(&mut rng, setting);
             for place in 0..=text.len() {
                 let mut longer = text.clone();
@@ -106,7 +106,7 @@ fn every_byte_inserted() {
 fn every_run_removed() {
     let (mut rng, mut tally, texts) = (Rng::new(84), Tally::default(), Texts::new());
     for setting in settings() {
-        for _ in 0..25 {
+        for _ in 0..fewer(25) {
             let text = texts.good_text(&mut rng, setting);
             for start in 0..=text.len() {
                 for end in start..=text.len() {
@@ -126,7 +126,7 @@ fn every_run_removed() {
 fn every_run_doubled() {
     let (mut rng, mut tally, texts) = (Rng::new(85), Tally::default(), Texts::new());
     for setting in settings() {
-        for _ in 0..15 {
+        for _ in 0..fewer(15) {
             let text = texts.good_text(&mut rng, setting);
             for start in 0..text.len() {
                 for end in start + 1..=text.len() {
@@ -270,7 +270,7 @@ fn every_short_fraction() {
 #[test]
 fn texts_of_all_kinds() {
     let (mut rng, mut tally, texts) = (Rng::new(92), Tally::default(), Texts::new());
-    for _ in 0..3_000_000 {
+    for _ in 0..fewer(3_000_000) {
         let mut text = texts.text(&mut rng);
         if rng.once_in(2) {
             damage(&mut rng, &mut text);
@@ -292,7 +292,7 @@ fn texts_of_all_kinds() {
 #[test]
 fn any_text_at_all() {
     let (mut rng, mut tally, texts) = (Rng::new(93), Tally::default(), Texts::new());
-    for _ in 0..1_000_000 {
+    for _ in 0..fewer(1_000_000) {
         let (setting, count) = (texts.setting(&mut rng), rng.below(40) as usize);
         let text = match rng.below(4) {
             0 => any_bytes(&mut rng, count),

@@ -4,7 +4,7 @@ mod common;
 
 use common::codes::{any_bytes, leaps, FIRST_DAY, FIRST_SECOND, LAST_DAY, LAST_SECOND};
 use common::texts::{damage, length, settings, unit, Texts};
-use common::{after, Scale, Tally};
+use common::{after, fewer, floor, Scale, Tally};
 use honigzange::{
     raw, AsciiSetting, BinarySetting, Record, Refusal, Setting, ASCII_ROOM, WALL_ROOM,
 };
@@ -140,7 +140,7 @@ fn every_number_of_digits() {
 fn every_room_of_every_setting() {
     let (mut rng, mut tally, texts) = (Rng::new(102), Tally::default(), Texts::new());
     for setting in settings() {
-        for _ in 0..300 {
+        for _ in 0..fewer(300) {
             let record = texts.record(&mut rng);
             for room in 0..=length(setting) + 1 {
                 compare(&mut rng, &mut tally, record, setting, room);
@@ -226,7 +226,7 @@ fn every_short_fraction() {
 fn moments_of_all_kinds() {
     let (mut rng, mut tally, texts) = (Rng::new(106), Tally::default(), Texts::new());
     let scale = Scale::new();
-    for _ in 0..2_000_000 {
+    for _ in 0..fewer(2_000_000) {
         let (mut record, mut setting) = (texts.record(&mut rng), texts.setting(&mut rng));
         if rng.once_in(16) {
             record = scale.any_record(&mut rng);
@@ -249,7 +249,7 @@ fn moments_of_all_kinds() {
 #[test]
 fn any_bits_at_all() {
     let (mut rng, mut tally) = (Rng::new(107), Tally::default());
-    for _ in 0..500_000 {
+    for _ in 0..fewer(500_000) {
         let shift = rng.below(64);
         let (sec, ticks) = (rng.i64() >> shift, rng.u64() >> rng.below(64));
         let setting = AsciiSetting {
@@ -274,7 +274,7 @@ fn any_bits_at_all() {
 fn walls_of_all_kinds() {
     let (mut rng, mut tally, texts) = (Rng::new(108), Tally::default(), Texts::new());
     let scale = Scale::new();
-    for _ in 0..500_000 {
+    for _ in 0..fewer(500_000) {
         let mut record = texts.record(&mut rng);
         if rng.once_in(16) {
             record = scale.any_record(&mut rng);
@@ -333,7 +333,7 @@ fn setting_of(text: &[u8]) -> AsciiSetting {
 #[test]
 fn written_as_read() {
     let (mut rng, texts, mut read) = (Rng::new(110), Texts::new(), 0);
-    for _ in 0..1_000_000 {
+    for _ in 0..fewer(1_000_000) {
         let mut text = texts.text(&mut rng);
         if rng.once_in(2) {
             damage(&mut rng, &mut text);
@@ -346,14 +346,14 @@ fn written_as_read() {
             read += 1;
         }
     }
-    assert!(read > 250_000, "too few: {read}");
+    assert!(read > floor(250_000), "too few: {read}");
 }
 
 /// What was written, read again, is not after the source, and less than a step before it.
 #[test]
 fn read_as_written() {
     let (mut rng, texts, mut done) = (Rng::new(111), Texts::new(), 0);
-    for _ in 0..1_000_000 {
+    for _ in 0..fewer(1_000_000) {
         let (record, setting) = (texts.record(&mut rng), texts.setting(&mut rng));
         let mut out = [0; ASCII_ROOM];
         if let Ok(written) = honigzange::write_ascii(record, setting, &mut out) {
@@ -364,14 +364,14 @@ fn read_as_written() {
             done += 1;
         }
     }
-    assert!(done > 800_000, "too few: {done}");
+    assert!(done > floor(800_000), "too few: {done}");
 }
 
 /// In one setting the texts have the order of their moments.
 #[test]
 fn later_moments_have_no_earlier_texts() {
     let (mut rng, texts, mut done) = (Rng::new(112), Texts::new(), 0);
-    for _ in 0..500_000 {
+    for _ in 0..fewer(500_000) {
         let (earlier, setting) = (texts.record(&mut rng), texts.setting(&mut rng));
         let later = Record {
             sec: earlier.sec + rng.between(0, 2),
@@ -385,7 +385,7 @@ fn later_moments_have_no_earlier_texts() {
             done += 1;
         }
     }
-    assert!(done > 300_000, "too few: {done}");
+    assert!(done > floor(300_000), "too few: {done}");
 }
 
 /// One setting for every code does as the code's own call.
@@ -393,7 +393,7 @@ fn later_moments_have_no_earlier_texts() {
 fn one_setting_for_every_code() {
     let (mut rng, texts) = (Rng::new(113), Texts::new());
     assert_eq!(Setting::default(), Setting::Ascii(AsciiSetting::default()));
-    for _ in 0..100_000 {
+    for _ in 0..fewer(100_000) {
         let record = texts.record(&mut rng);
         let (mut one, mut other) = ([0; MOST], [0; MOST]);
         let binary = BinarySetting {

@@ -2,11 +2,11 @@
 
 mod common;
 
-use common::after;
 use common::codes::{
     any_bytes, ccs_field, cds_field, damage, date, edge_epochs, leaps, length, octets, octets_of,
     octets_of_text, uses_epoch, Answers, Kind, Moments, Tallies, FIRST_DAY, KNOWN, LAST_DAY,
 };
+use common::{after, fewer};
 use honigzange::{raw, Preamble, Record, Refusal};
 use second::binary;
 use second::rng::Rng;
@@ -88,7 +88,7 @@ fn every_p_octet_with_edge_epochs() {
 fn every_cut_of_every_layout() {
     let (mut rng, mut tallies, moments) = (Rng::new(42), Tallies::default(), Moments::new());
     for p in octets() {
-        for _ in 0..500 {
+        for _ in 0..fewer(500) {
             let (t, epoch) = moments.t_field(&mut rng, p);
             let bytes = [&[p], &t[..], &any_bytes(&mut rng, 3)].concat();
             for cut in 0..=bytes.len() {
@@ -135,7 +135,7 @@ fn every_change_of_one_octet() {
 fn codes_of_all_kinds() {
     let (mut rng, mut tallies, moments) = (Rng::new(44), Tallies::default(), Moments::new());
     let good = octets();
-    for _ in 0..2_000_000 {
+    for _ in 0..fewer(2_000_000) {
         let p = rng.pick(&good);
         let (t, epoch) = moments.t_field(&mut rng, p);
         let mut bytes = [&[p], &t[..]].concat();
@@ -160,7 +160,7 @@ fn codes_of_all_kinds() {
 #[test]
 fn any_bytes_at_all() {
     let (mut rng, mut tallies) = (Rng::new(45), Tallies::default());
-    for _ in 0..1_000_000 {
+    for _ in 0..fewer(1_000_000) {
         let (count, p) = (rng.below(20) as usize, rng.u64() as u8);
         let bytes = any_bytes(&mut rng, count);
         let epoch = rng.i64() >> rng.below(64);

@@ -6,7 +6,7 @@ use common::codes::{
     any_bytes, counts, damage, edge_epochs, kind, leaps, length, octets, octets_of, octets_of_text,
     ticks, unit, uses_epoch, Answers, Kind, Moments, Tallies, FIRST_SECOND, KNOWN, LAST_SECOND,
 };
-use common::{after, Scale};
+use common::{after, fewer, floor, Scale};
 use honigzange::{raw, BinarySetting, Preamble, Record, Refusal, BINARY_ROOM};
 use second::rng::Rng;
 use second::{binary, leap, scale};
@@ -113,7 +113,7 @@ fn every_p_octet_with_edge_epochs() {
 fn every_room_of_every_layout() {
     let (mut rng, mut tallies, moments) = (Rng::new(62), Tallies::default(), Moments::new());
     for p in octets() {
-        for _ in 0..300 {
+        for _ in 0..fewer(300) {
             let record = moments.record(&mut rng, p);
             let epoch = moments.epoch(&mut rng, p, record.sec);
             for front in [false, true] {
@@ -204,7 +204,7 @@ fn ends_of_each_target_of_cds() {
 fn moments_of_all_kinds() {
     let (mut rng, mut tallies, moments) = (Rng::new(66), Tallies::default(), Moments::new());
     let (good, scale) = (octets(), Scale::new());
-    for _ in 0..2_000_000 {
+    for _ in 0..fewer(2_000_000) {
         let mut p = rng.pick(&good);
         let mut record = moments.record(&mut rng, p);
         let epoch = moments.epoch(&mut rng, p, record.sec);
@@ -225,7 +225,7 @@ fn moments_of_all_kinds() {
 #[test]
 fn any_bits_at_all() {
     let (mut rng, mut tallies) = (Rng::new(67), Tallies::default());
-    for _ in 0..500_000 {
+    for _ in 0..fewer(500_000) {
         let shift = rng.below(64);
         let (sec, ticks) = (rng.i64() >> shift, rng.u64() >> rng.below(64));
         let (p, front) = (rng.u64() as u8, rng.once_in(2));
@@ -263,7 +263,7 @@ fn no_room_at_null() {
 fn written_as_read() {
     let (mut rng, moments, good) = (Rng::new(69), Moments::new(), octets());
     let mut read = [0; 3];
-    for _ in 0..1_000_000 {
+    for _ in 0..fewer(1_000_000) {
         let p = rng.pick(&good);
         let (mut t, epoch) = moments.t_field(&mut rng, p);
         if rng.once_in(2) {
@@ -279,7 +279,10 @@ fn written_as_read() {
             read[kind(p).expect("a good P octet is a code's") as usize] += 1;
         }
     }
-    assert!(read.iter().min() > Some(&80_000), "too few: {read:?}");
+    assert!(
+        read.iter().min() > Some(&floor(80_000)),
+        "too few: {read:?}"
+    );
 }
 
 /// What was written, read again, is not after the source, and less than a step before it.
@@ -287,7 +290,7 @@ fn written_as_read() {
 fn read_as_written() {
     let (mut rng, moments, good) = (Rng::new(70), Moments::new(), octets());
     let mut done = [0; 3];
-    for _ in 0..1_000_000 {
+    for _ in 0..fewer(1_000_000) {
         let p = rng.pick(&good);
         let record = moments.record(&mut rng, p);
         let epoch = moments.epoch(&mut rng, p, record.sec);
@@ -302,7 +305,10 @@ fn read_as_written() {
             done[kind(p).expect("a good P octet is a code's") as usize] += 1;
         }
     }
-    assert!(done.iter().min() > Some(&100_000), "too few: {done:?}");
+    assert!(
+        done.iter().min() > Some(&floor(100_000)),
+        "too few: {done:?}"
+    );
 }
 
 /// Document 01's own moments, in every code, and the last tick of the leap second in some.

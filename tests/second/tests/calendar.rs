@@ -2,7 +2,7 @@
 
 mod common;
 
-use common::{after, widened, Tally};
+use common::{after, fewer, widened, Tally};
 use honigzange::{raw, Date, Ordinal, Refusal, FIRST_DAY, LAST_DAY};
 use second::calendar;
 use second::rng::{i64_edges, u64_edges, Rng};
@@ -162,7 +162,7 @@ fn field(rng: &mut Rng, last: u64) -> u64 {
 #[test]
 fn dates_of_all_kinds() {
     let (mut rng, mut dates, mut ordinals) = (Rng::new(18), Tally::default(), Tally::default());
-    for _ in 0..1_000_000 {
+    for _ in 0..fewer(1_000_000) {
         let year = field(&mut rng, 9999);
         let (month, day) = (field(&mut rng, 12), field(&mut rng, 31));
         compare_day_of_date(&mut rng, &mut dates, Date { year, month, day });
@@ -176,7 +176,7 @@ fn dates_of_all_kinds() {
 #[test]
 fn day_numbers_of_all_kinds() {
     let (mut rng, mut tally) = (Rng::new(19), Tally::default());
-    for _ in 0..1_000_000 {
+    for _ in 0..fewer(1_000_000) {
         let good = rng.between(FIRST_DAY, LAST_DAY);
         let day = match rng.below(4) {
             0 => rng.i64(),

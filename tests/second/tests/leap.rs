@@ -2,7 +2,7 @@
 
 mod common;
 
-use common::{after, widened, Tally};
+use common::{after, fewer, widened, Tally};
 use honigzange::{raw, Refusal, Utc};
 use second::leap;
 use second::rng::{i64_edges, u64_edges, Rng};
@@ -170,7 +170,7 @@ fn readings_of_all_edges() {
 #[test]
 fn seconds_of_all_kinds() {
     let (mut rng, mut tally) = (Rng::new(27), Tally::default());
-    for _ in 0..1_000_000 {
+    for _ in 0..fewer(1_000_000) {
         let good = rng.between(FIRST_SECOND, LAST_SECOND);
         let sec = match rng.below(4) {
             0 => rng.i64(),
@@ -186,7 +186,7 @@ fn seconds_of_all_kinds() {
 #[test]
 fn readings_of_all_kinds() {
     let (mut rng, mut tally) = (Rng::new(28), Tally::default());
-    for _ in 0..1_000_000 {
+    for _ in 0..fewer(1_000_000) {
         let good = rng.between(FIRST_DAY, LAST_DAY);
         let day = match rng.below(8) {
             0 => rng.i64(),

@@ -8,7 +8,7 @@ use common::lists::{
 };
 use common::tags::{edge_shapes, fill, shapes, Numbers, Seconds};
 use common::texts::{any_characters, damage};
-use common::{after, Scale};
+use common::{after, fewer, floor, Scale};
 use honigzange::{raw, Listing, Record, Refusal};
 use second::rng::Rng;
 use second::{ascii_tag, leap};
@@ -83,7 +83,7 @@ fn any_window(rng: &mut Rng, sec: i64, tag: &[u8]) -> Window {
 #[test]
 fn every_shape() {
     let (mut rng, mut listed, seconds) = (Rng::new(141), Listed::default(), Seconds::new());
-    let each = 150;
+    let each = fewer(150);
     for shape in shapes() {
         for _ in 0..each {
             let sec = seconds.any(&mut rng);
@@ -101,7 +101,7 @@ fn every_shape() {
 fn edge_numbers_in_every_shape() {
     let (mut rng, mut listed, seconds) = (Rng::new(142), Listed::default(), Seconds::new());
     for shape in shapes() {
-        for _ in 0..150 {
+        for _ in 0..fewer(150) {
             let sec = seconds.any(&mut rng);
             let numbers = Numbers::of(sec).edge(&mut rng).edge(&mut rng);
             let tag = fill(&mut rng, &shape, numbers);
@@ -165,7 +165,7 @@ fn every_byte_inserted() {
 fn every_run_removed() {
     let (mut rng, mut listed, seconds) = (Rng::new(145), Listed::default(), Seconds::new());
     for shape in edge_shapes() {
-        for _ in 0..10 {
+        for _ in 0..fewer(10) {
             let (tag, window) = tag_and_window(&mut rng, &seconds, &shape);
             for start in 0..=tag.len() {
                 for end in start..=tag.len() {
@@ -186,7 +186,7 @@ fn every_run_removed() {
 fn every_run_doubled() {
     let (mut rng, mut listed, seconds) = (Rng::new(146), Listed::default(), Seconds::new());
     for shape in edge_shapes() {
-        for _ in 0..3 {
+        for _ in 0..fewer(3) {
             let (tag, window) = tag_and_window(&mut rng, &seconds, &shape);
             for start in 0..tag.len() {
                 for end in start + 1..=tag.len() {
@@ -418,7 +418,7 @@ fn faults_of_all_kinds_together() {
 fn tags_of_all_kinds() {
     let (mut rng, mut listed, scale) = (Rng::new(153), Listed::default(), Scale::new());
     let (shapes, seconds) = (shapes(), Seconds::new());
-    for _ in 0..200_000 {
+    for _ in 0..fewer(200_000) {
         let sec = seconds.any(&mut rng);
         let mut numbers = Numbers::of(sec);
         if rng.once_in(4) {
@@ -450,7 +450,7 @@ fn tags_of_all_kinds() {
 #[test]
 fn any_text_at_all() {
     let (mut rng, mut listed, shapes) = (Rng::new(154), Listed::default(), shapes());
-    for _ in 0..200_000 {
+    for _ in 0..fewer(200_000) {
         let count = rng.below(12) as usize;
         let tag = match rng.below(4) {
             0 => any_bytes(&mut rng, count),
@@ -537,7 +537,7 @@ fn long_lists() {
 fn cut_windows_and_cut_lists() {
     let (mut rng, seconds, mut named) = (Rng::new(157), Seconds::new(), 0);
     for shape in shapes() {
-        for _ in 0..50 {
+        for _ in 0..fewer(50) {
             let sec = seconds.any(&mut rng);
             let tag = fill(&mut rng, &shape, Numbers::of(sec));
             let moment = Record {
@@ -556,7 +556,7 @@ fn cut_windows_and_cut_lists() {
             });
         }
     }
-    assert!(named > 300_000, "too few: {named}");
+    assert!(named as u64 > floor(300_000), "too few: {named}");
 }
 
 #[test]

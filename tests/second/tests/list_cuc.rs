@@ -10,7 +10,7 @@ use common::lists::{
     around, compare_cuts, compare_listed, pair, room, spoil, ticks_near, told, Expected, Listed,
     RECORDS,
 };
-use common::{after, Scale};
+use common::{after, fewer, floor, Scale};
 use honigzange::{raw, Listing, Preamble, Record, Refusal};
 use second::rng::{i64_edges, Rng};
 use second::{binary, cuc_tag};
@@ -183,7 +183,7 @@ fn every_p_octet_with_edge_epochs() {
 #[test]
 fn every_cut_of_every_layout() {
     let (mut rng, mut listed) = (Rng::new(122), Listed::default());
-    let each = 500;
+    let each = fewer(500);
     for p in octets_of(Kind::Cuc) {
         for _ in 0..each {
             let (t, epoch, moment) = any_tag(&mut rng, p);
@@ -296,7 +296,7 @@ fn far_epochs_and_windows() {
     let ends = i64_edges(&[-1 << 41, -1 << 40, 1 << 40, 1 << 41, (1 << 41) - (1 << 32)]);
     for p in octets_of(Kind::Cuc) {
         for epoch in [-1 << 40, -1, 0, 1, (1 << 40) - 1] {
-            for _ in 0..150 {
+            for _ in 0..fewer(150) {
                 let count = length(p);
                 let t = match rng.below(3) {
                     0 => vec![0; count],
@@ -324,7 +324,7 @@ fn far_epochs_and_windows() {
 fn tags_of_all_kinds() {
     let (mut rng, mut listed, scale) = (Rng::new(127), Listed::default(), Scale::new());
     let good = octets_of(Kind::Cuc);
-    for _ in 0..2_000_000 {
+    for _ in 0..fewer(2_000_000) {
         let p = rng.pick(&good);
         let (t, mut epoch, moment) = any_tag(&mut rng, p);
         let mut window = any_window(&mut rng, p, moment);
@@ -362,7 +362,7 @@ fn tags_of_all_kinds() {
 #[test]
 fn any_bits_at_all() {
     let (mut rng, mut listed) = (Rng::new(128), Listed::default());
-    for _ in 0..2_000_000 {
+    for _ in 0..fewer(2_000_000) {
         let (count, p) = (rng.below(10) as usize, rng.u64() as u8);
         let bytes = any_bytes(&mut rng, count);
         let shifts = [0; 5].map(|_| rng.below(64));
@@ -398,7 +398,7 @@ fn any_bits_at_all() {
 fn cut_windows_and_cut_lists() {
     let (mut rng, mut named) = (Rng::new(129), 0);
     for p in octets_of(Kind::Cuc) {
-        for _ in 0..400 {
+        for _ in 0..fewer(400) {
             let (t, epoch, moment) = any_tag(&mut rng, p);
             let window = around(&mut rng, moment, 8 * counts(p), RECORDS);
             let bytes = [&[p], &t[..]].concat();
@@ -408,7 +408,7 @@ fn cut_windows_and_cut_lists() {
             });
         }
     }
-    assert!(named > 50_000, "too few: {named}");
+    assert!(named as u64 > floor(50_000), "too few: {named}");
 }
 
 #[test]

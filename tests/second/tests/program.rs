@@ -4,16 +4,19 @@ mod common;
 
 use common::codes::any_bytes;
 use common::texts::{line, Texts};
+use common::{fewer, floor};
 use second::program;
 use second::rng::Rng;
-use std::env;
-use std::fs::OpenOptions;
+use std::fs::{self, File, OpenOptions};
 use std::io::{Read, Write};
+use std::os::unix::fs::OpenOptionsExt;
 use std::os::unix::process::ExitStatusExt;
 use std::path::{Path, PathBuf};
 use std::process::{Child, Command, ExitStatus, Stdio};
-use std::thread;
+use std::sync::atomic::{AtomicU64, Ordering::Relaxed};
+use std::sync::OnceLock;
 use std::time::{Duration, Instant};
+use std::{env, process, thread};
 
 const GOOD: &[u8] = b"2016-12-31T23:59:60";
 
@@ -35,11 +38,34 @@ fn programs() -> [PathBuf; 2] {
     [zange(), PathBuf::from(env!("CARGO_BIN_EXE_second-zange"))]
 }
 
+/// A program is for x86-64: elsewhere it stands behind the emulator that HZ_RUN names.
+fn command(program: &Path) -> Command {
+    match env::var_os("HZ_RUN").filter(|run| !run.is_empty()) {
+        Some(run) => {
+            let mut command = Command::new(run);
+            command.arg(program);
+            command
+        }
+        None => Command::new(program),
+    }
+}
+
+/// The same by a shell, which has done something to its own streams or signals before.
+fn command_after(done: &str, program: &Path) -> Command {
+    let command = command(program);
+    let mut shell = Command::new("sh");
+    shell.args(["-c", &format!("{done}; exec \"$@\""), "sh"]);
+    shell.arg(command.get_program()).args(command.get_args());
+    shell
+}
+
+fn spawn(command: &mut Command, output: Stdio) -> Child {
+    let child = command.stdout(output).stderr(Stdio::piped()).spawn();
+    child.unwrap_or_else(|error| panic!("{command:?}: {error}"))
+}
+
 fn start(program: &Path, output: Stdio) -> Child {
-    let mut command = Command::new(program);
-    command.stdin(Stdio::piped()).stdout(output);
-    let child = command.stderr(Stdio::piped()).spawn();
-    child.unwrap_or_else(|error| panic!("{}: {error}", program.display()))
+    spawn(command(program).stdin(Stdio::piped()), output)
 }
 
 /// What a program prints for an input that comes in pieces. It must end well and complain of nothing.
@@ -130,7 +156,7 @@ fn lines(rng: &mut Rng, count: usize) -> Vec<u8> {
 #[test]
 fn a_million_lines_in_pieces() {
     let mut rng = Rng::new(121);
-    let input = lines(&mut rng, 1_000_000);
+    let input = lines(&mut rng, fewer(1_000_000) as usize);
     let answers = program::printed(&input);
     for refusal in ["", "refused 1", "refused 4", "refused 5", "refused 6"] {
         let told = |line: &[u8]| match refusal {
@@ -141,7 +167,10 @@ fn a_million_lines_in_pieces() {
             .split(|&byte| byte == b'\n')
             .filter(|line| told(line))
             .count();
-        assert!(count > 30_000, "too few of {refusal:?}: {count}");
+        assert!(
+            count as u64 > floor(30_000),
+            "too few of {refusal:?}: {count}"
+        );
     }
     compare(&pieces(&mut rng, &input), Duration::ZERO);
 }
@@ -150,7 +179,7 @@ fn a_million_lines_in_pieces() {
 #[test]
 fn many_short_inputs() {
     let mut rng = Rng::new(122);
-    for _ in 0..1_000 {
+    for _ in 0..fewer(1_000) {
         let count = rng.below(8) as usize;
         let mut input = lines(&mut rng, count);
         if rng.once_in(2) {
@@ -276,36 +305,160 @@ fn end_of(child: &mut Child) -> ExitStatus {
     panic!("the program does not end though its output has failed");
 }
 
-/// It ends well, or by the signal of a broken pipe, and says nothing.
-fn ends_quietly(mut child: Child) {
-    feed_without_end(&mut child);
+/// What a program printed and said, and how it ended.
+fn ended(mut child: Child) -> (Vec<u8>, String, ExitStatus) {
     let status = end_of(&mut child);
-    const BROKEN_PIPE: i32 = 13;
-    let quiet = status.success() || status.signal() == Some(BROKEN_PIPE);
-    assert!(quiet, "{status:?}");
-    let mut said = String::new();
-    let mut errors = child.stderr.take().expect("the errors are a pipe");
-    errors
-        .read_to_string(&mut said)
-        .expect("the errors are read");
-    assert_eq!(said, "");
+    let output = child.wait_with_output().expect("the program ends");
+    let said = String::from_utf8(output.stderr).expect("it says text");
+    (output.stdout, said, status)
+}
+
+fn assert_ended(found: (Vec<u8>, String, ExitStatus), printed: &[u8], said: &str) {
+    let (output, errors, status) = found;
+    assert_eq!(
+        output.escape_ascii().to_string(),
+        printed.escape_ascii().to_string()
+    );
+    assert_eq!(errors, said);
+    assert!(status.success(), "{status:?}");
+}
+
+/// A directory can be opened and not read.
+#[test]
+fn input_from_a_directory() {
+    for program in programs() {
+        let folder = File::open("/").expect("there is a directory");
+        let child = spawn(command(&program).stdin(folder), Stdio::piped());
+        assert_ended(ended(child), b"", "zange: standard input: Is a directory\n");
+    }
 }
 
 #[test]
+fn input_closed() {
+    for program in programs() {
+        let child = spawn(&mut command_after("exec <&-", &program), Stdio::piped());
+        assert_ended(
+            ended(child),
+            b"",
+            "zange: standard input: Bad file descriptor\n",
+        );
+    }
+}
+
+/// A pipe in which more is still to come, and from which a program would not wait for it. Whole lines are
+/// answered, and what is there of another is not: nobody sent it so.
+#[test]
+fn input_cut_in_a_line() {
+    let line = [GOOD, b"\n"].concat();
+    let answer = b"2016-12-31T23:59:60.000Z\n";
+    let inputs: [(&[u8], &[u8]); 5] = [
+        (b"", b""),
+        (b"2016-12-31T23:59:59", b""),
+        (&line, answer),
+        (&[&line, &b"2016-12-31T23:59:59"[..]].concat(), answer),
+        (&[&line, &[b'0'; 100][..]].concat(), answer),
+    ];
+    for program in programs() {
+        for (input, printed) in inputs {
+            let (from, mut to) = pipe_without_waiting();
+            to.write_all(input).expect("the pipe takes it");
+            let child = spawn(command(&program).stdin(from), Stdio::piped());
+            let said = "zange: standard input: Resource temporarily unavailable\n";
+            assert_ended(ended(child), printed, said);
+        }
+    }
+}
+
+/// Both ends of a pipe, of which the one to read from does not block.
+fn pipe_without_waiting() -> (File, File) {
+    static COUNT: AtomicU64 = AtomicU64::new(0);
+    let name = format!("pipe-{}-{}", process::id(), COUNT.fetch_add(1, Relaxed));
+    let path = env::temp_dir().join(name);
+    let made = Command::new("mkfifo").arg(&path).status();
+    assert!(made.expect("there is mkfifo").success());
+    const NO_WAIT: i32 = 0o4000;
+    let from = OpenOptions::new()
+        .read(true)
+        .custom_flags(NO_WAIT)
+        .open(&path);
+    let to = OpenOptions::new().write(true).open(&path);
+    fs::remove_file(&path).expect("the pipe needs its name no more");
+    (
+        from.expect("it is there to read"),
+        to.expect("and to write"),
+    )
+}
+
+/// A library that has the first calls of a stream interrupted, before they move a byte.
+fn interrupting() -> PathBuf {
+    static BUILT: OnceLock<PathBuf> = OnceLock::new();
+    let build = || {
+        let source = Path::new(env!("CARGO_MANIFEST_DIR")).join("../c/interrupted.c");
+        let library = Path::new(env!("CARGO_TARGET_TMPDIR")).join("interrupted.so");
+        let compiler = env::var("HZ_CC").unwrap_or_else(|_| "gcc".to_string());
+        let mut command = Command::new(compiler);
+        command.args(["-std=c99", "-shared", "-fPIC", "-o"]);
+        let status = command.arg(&library).arg(source).status();
+        assert!(status.expect("there is a C compiler").success());
+        library
+    };
+    BUILT.get_or_init(build).clone()
+}
+
+/// An interrupted call is made again, a thousand times at most.
+#[test]
+fn interrupted_calls() {
+    let line = [GOOD, b"\n"].concat();
+    for program in programs() {
+        for (stream, times) in ["input", "output"]
+            .into_iter()
+            .flat_map(|stream| [0, 1, 1_000, 1_001, u32::MAX].map(|times| (stream, times)))
+        {
+            let mut command = command(&program);
+            command.env("LD_PRELOAD", interrupting());
+            command.env("INTERRUPTED_STREAM", stream);
+            command.env("INTERRUPTED_TIMES", times.to_string());
+            let mut child = spawn(command.stdin(Stdio::piped()), Stdio::piped());
+            let mut input = child.stdin.take().expect("the input is a pipe");
+            // A program that has ended takes none, which its answers tell.
+            let _ = input.write_all(&line);
+            drop(input);
+            let failed = format!("zange: standard {stream}: Interrupted system call\n");
+            match times {
+                0..=1_000 => assert_ended(ended(child), b"2016-12-31T23:59:60.000Z\n", ""),
+                _ => assert_ended(ended(child), b"", &failed),
+            }
+        }
+    }
+}
+
+/// The signal of a broken pipe ends a program without a word, unless it is ignored: then the program says so.
+#[test]
 fn output_closed_early() {
+    const BROKEN_PIPE: i32 = 13;
     for program in programs() {
         for wanted in [0, 1, 25, 100_000] {
-            let mut child = start(&program, Stdio::piped());
-            let output = child.stdout.take().expect("the output is a pipe");
-            let reader = thread::spawn(move || {
-                let mut taken = Vec::new();
-                output
-                    .take(wanted)
-                    .read_to_end(&mut taken)
-                    .expect("the output is read");
-            });
-            ends_quietly(child);
-            reader.join().expect("the reader ends");
+            for ignored in [false, true] {
+                let mut command = match ignored {
+                    false => command(&program),
+                    true => command_after("trap '' PIPE", &program),
+                };
+                let mut child = spawn(command.stdin(Stdio::piped()), Stdio::piped());
+                let output = child.stdout.take().expect("the output is a pipe");
+                let reader = thread::spawn(move || {
+                    let mut taken = Vec::new();
+                    let read = output.take(wanted).read_to_end(&mut taken);
+                    read.expect("the output is read");
+                });
+                feed_without_end(&mut child);
+                let (_, said, status) = ended(child);
+                match ignored {
+                    false => assert_eq!((said.as_str(), status.signal()), ("", Some(BROKEN_PIPE))),
+                    true => assert_eq!(said, "zange: standard output: Broken pipe\n"),
+                }
+                assert_eq!(status.success(), ignored, "{status:?}");
+                reader.join().expect("the reader ends");
+            }
         }
     }
 }
@@ -314,9 +467,24 @@ fn output_closed_early() {
 fn output_to_a_full_device() {
     for program in programs() {
         let full = OpenOptions::new().write(true).open("/dev/full");
-        ends_quietly(start(
-            &program,
-            full.expect("there is a full device").into(),
-        ));
+        let full = full.expect("there is a full device");
+        let mut child = start(&program, full.into());
+        feed_without_end(&mut child);
+        let said = "zange: standard output: No space left on device\n";
+        assert_ended(ended(child), b"", said);
+    }
+}
+
+/// Also when the only answer is that of a last line without its line feed.
+#[test]
+fn output_closed() {
+    for program in programs() {
+        let mut command = command_after("exec >&-", &program);
+        let mut child = spawn(command.stdin(Stdio::piped()), Stdio::piped());
+        let mut input = child.stdin.take().expect("the input is a pipe");
+        input.write_all(GOOD).expect("the program takes it");
+        drop(input);
+        let said = "zange: standard output: Bad file descriptor\n";
+        assert_ended(ended(child), b"", said);
     }
 }

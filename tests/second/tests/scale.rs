@@ -2,7 +2,7 @@
 
 mod common;
 
-use common::{after, Scale, Tally};
+use common::{after, fewer, floor, Scale, Tally};
 use honigzange::{raw, Record, Refusal, Span};
 use second::rng::Rng;
 use second::scale;
@@ -64,7 +64,7 @@ fn shifts_by_all_edges() {
 #[test]
 fn differences_of_all_kinds() {
     let (mut rng, mut tally, kinds) = (Rng::new(3), Tally::default(), Scale::new());
-    for _ in 0..2_000_000 {
+    for _ in 0..fewer(2_000_000) {
         let (a, b) = (kinds.any_record(&mut rng), kinds.any_record(&mut rng));
         compare_difference(&mut rng, &mut tally, a, b);
     }
@@ -74,7 +74,7 @@ fn differences_of_all_kinds() {
 #[test]
 fn shifts_of_all_kinds() {
     let (mut rng, mut tally, kinds) = (Rng::new(4), Tally::default(), Scale::new());
-    for _ in 0..2_000_000 {
+    for _ in 0..fewer(2_000_000) {
         let (r, by) = (kinds.any_record(&mut rng), kinds.any_span(&mut rng));
         compare_shift(&mut rng, &mut tally, r, by);
     }
@@ -84,7 +84,7 @@ fn shifts_of_all_kinds() {
 #[test]
 fn any_bits_at_all() {
     let (mut rng, mut tally) = (Rng::new(5), Tally::default());
-    for _ in 0..500_000 {
+    for _ in 0..fewer(500_000) {
         let a = Record {
             sec: rng.i64(),
             ticks: rng.u64(),
@@ -100,7 +100,7 @@ fn any_bits_at_all() {
 fn shifts_to_the_ends_of_the_range() {
     let (mut rng, mut tally) = (Rng::new(6), Tally::default());
     let ends = [scale::total(-1 << 41, 0), scale::total(1 << 41, 0)];
-    for _ in 0..500_000 {
+    for _ in 0..fewer(500_000) {
         let r = common::record(&mut rng);
         let unit = rng.pick(&[1, i128::from(scale::TICKS)]);
         let target = rng.pick(&ends) + unit * i128::from(rng.between(-2, 2));
@@ -121,7 +121,7 @@ fn shifts_to_the_ends_of_the_range() {
 #[test]
 fn shifting_b_by_a_less_b_gives_a() {
     let mut rng = Rng::new(7);
-    for _ in 0..1_000_000 {
+    for _ in 0..fewer(1_000_000) {
         let (a, b) = (common::record(&mut rng), common::record(&mut rng));
         let apart = honigzange::difference(a, b).expect("valid records have a difference");
         assert_eq!(honigzange::shift(b, apart), Ok(a), "{a:?} - {b:?}");
@@ -131,12 +131,15 @@ fn shifting_b_by_a_less_b_gives_a() {
 #[test]
 fn a_shifted_record_less_the_first_is_the_span() {
     let (mut rng, mut done) = (Rng::new(8), 0);
-    for _ in 0..1_000_000 {
+    for _ in 0..fewer(1_000_000) {
         let (r, by) = (common::record(&mut rng), common::span(&mut rng));
         if let Ok(to) = honigzange::shift(r, by) {
             assert_eq!(honigzange::difference(to, r), Ok(by), "{r:?} by {by:?}");
             done += 1;
         }
     }
-    assert!(done > 100_000, "too few shifts stay in range: {done}");
+    assert!(
+        done > floor(100_000),
+        "too few shifts stay in range: {done}"
+    );
 }

@@ -5,6 +5,7 @@ mod common;
 use common::codes::{any_bytes, counts, length, octets_of, Kind};
 use common::lists::{pair, COVER};
 use common::tags::{fill, shapes, Numbers, Seconds};
+use common::{fewer, floor};
 use second::ascii_tag::{names, SHORT_RANGE};
 use second::listing::Listing;
 use second::rng::Rng;
@@ -57,7 +58,7 @@ fn known_lists() {
 fn no_second_is_overlooked() {
     let (mut rng, seconds, mut named) = (Rng::new(161), Seconds::new(), 0);
     for shape in shapes() {
-        for _ in 0..4 {
+        for _ in 0..fewer(4) {
             let sec = seconds.any(&mut rng);
             let tag = fill(&mut rng, &shape, Numbers::of(sec));
             let from = sec - rng.between(SHORT_RANGE, 2 * SHORT_RANGE);
@@ -74,7 +75,7 @@ fn no_second_is_overlooked() {
             named += found.secs.len();
         }
     }
-    assert!(named > 50_000, "too few: {named}");
+    assert!(named as u64 > floor(50_000), "too few: {named}");
 }
 
 /// Few numbers are tried for those deleted on the left. With all of them no other tag is good.
@@ -132,7 +133,7 @@ fn assert_good_with_any(separators: &str, starts: &[String], tag: &str, end: &st
 fn no_step_is_left_out() {
     let (mut rng, mut named) = (Rng::new(162), 0);
     for p in octets_of(Kind::Cuc) {
-        for _ in 0..1_000 {
+        for _ in 0..fewer(1_000) {
             let (t, epoch) = (any_bytes(&mut rng, length(p)), rng.between(-1_000, 1_000));
             let (sec, ticks, _) = binary::read(&t, false, p, epoch).expect("the tag is a code");
             let from = (
@@ -155,5 +156,5 @@ fn no_step_is_left_out() {
             named += found.secs.len();
         }
     }
-    assert!(named > 20_000, "too few: {named}");
+    assert!(named as u64 > floor(20_000), "too few: {named}");
 }

@@ -1,7 +1,7 @@
 //! Listings: lent lists and result cells, windows and rooms of all kinds, and the tally of what was listed.
 
 use super::codes::{FIRST_SECOND, LAST_SECOND};
-use super::{after, Scale, Tally};
+use super::{after, floor, Scale, Tally};
 use honigzange::{Listing, Record, Refusal};
 use second::listing;
 use second::rng::Rng;
@@ -95,9 +95,9 @@ impl Listed {
     }
 
     /// Lists of each kind were more than said.
-    pub fn assert_each_over(&self, floor: u64) {
+    pub fn assert_each_over(&self, count: u64) {
         let least = self.empty.min(self.whole).min(self.more);
-        assert!(least > floor, "too few of a kind: {self:?}");
+        assert!(least > floor(count), "too few of a kind: {self:?}");
     }
 }
 
