@@ -1,4 +1,5 @@
 # make                        the libraries, the program and the manual pages, in target/
+# make run                    the program, on the lines of examples/times.txt
 # make test                   the gate, which proves and compares everything
 # make install PREFIX=DIR     header, libraries, honigzange.pc, zange, manual pages
 # make uninstall PREFIX=DIR
@@ -6,6 +7,9 @@
 #
 # DESTDIR stands before each path that is written to, and in no file. `make` always asks rt, which knows what
 # is proved; `make install` builds only what is missing, so that root needs no rt.
+#
+# Rattle compiles for x86-64 alone. On Arm the libraries are for x86-64 too, a compiler for it links them, and the
+# program runs under the emulator of Rattle's kit.
 
 VERSION = 0.1.0
 SONAME = libhonigzange.so.0
@@ -16,9 +20,16 @@ INCLUDEDIR = $(PREFIX)/include
 LIBDIR = $(PREFIX)/lib
 MANDIR = $(PREFIX)/share/man
 
-CC = gcc
 INSTALL = install
 RT = rt
+ifeq ($(shell uname -m),aarch64)
+CC = x86_64-linux-gnu-gcc
+TOOLS = $(dir $(patsubst %/,%,$(dir $(shell $(RT) doc))))on/aarch64/toolchain
+EMULATOR = $(TOOLS)/bin/qemu-x86_64 $(TOOLS)/lib/ld-linux-x86-64.so.2 --library-path $(TOOLS)/lib
+else
+CC = gcc
+EMULATOR =
+endif
 
 STATIC = target/staticlib/libhonigzange.a
 SHARED = target/shared/libhonigzange.so.$(VERSION)
@@ -38,8 +49,15 @@ $(STATIC):
 $(PROGRAM):
 	$(RT) check zange
 
+run:
+	@[ -f $(PROGRAM) ] || echo 'proving the program: some minutes' >&2
+	@mkdir -p target
+	@$(RT) check zange >target/run.log 2>&1 || { cat target/run.log; exit 1; }
+	@$(EMULATOR) $(PROGRAM) <examples/times.txt
+
 # The linker refuses what is not position independent (text) or needs another library (defs).
 $(SHARED): $(STATIC) pkg/honigzange.map
+	@command -v $(CC) >/dev/null || .ci/machine link
 	mkdir -p target/shared
 	$(CC) -shared -nostdlib -o $@ -Wl,-soname,$(SONAME) -Wl,--version-script=pkg/honigzange.map \
 	    -Wl,-z,text -Wl,-z,defs -Wl,--whole-archive $(STATIC) -Wl,--no-whole-archive
@@ -86,4 +104,4 @@ clean:
 # rt works on one target/ at a time.
 .NOTPARALLEL:
 .DELETE_ON_ERROR:
-.PHONY: all prove test install uninstall clean
+.PHONY: all prove run test install uninstall clean

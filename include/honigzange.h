@@ -19,9 +19,11 @@
  * ANSWERS. Each function answers 0 when it is done, or one of the refusal numbers below. Results are
  * written only with the answer 0. After a refusal every byte and cell lent to the call is unchanged.
  *
- * POINTERS. A pointer to lent bytes or a lent list may be NULL only when its length is 0. A pointer to a
- * result is never NULL and is aligned for its type. No two result cells or lent buffers of a call overlap.
- * A bool is true or false. Every bit pattern is allowed in all other arguments.
+ * POINTERS. Behind a pointer to lent bytes, len bytes can be read; behind one to lent room, room bytes, or room
+ * elements of a list, can be written, and a list is aligned for its elements. Such a pointer may be NULL only
+ * when its len or room is 0. A pointer to a result is never NULL and is aligned for its type. No two result
+ * cells or lent buffers of a call overlap. A bool is true or false. No other argument is bounded: every bit
+ * pattern is allowed.
  *
  * TEXT. Text is bytes and a length, read and written. It is NOT terminated by a NUL: a written text ends after
  * as many bytes as the call says, and a NUL that is read is a character like any other, and refused.
