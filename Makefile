@@ -11,7 +11,8 @@
 # Rattle compiles for x86-64 alone. On Arm the libraries are for x86-64 too, a compiler for it links them, and the
 # program runs under the emulator of Rattle's kit.
 
-VERSION = 0.1.0
+# The version stands in the package for Rust.
+VERSION := $(shell sed -n 's/^version = "\(.*\)"$$/\1/p' bindings/rust/Cargo.toml)
 SONAME = libhonigzange.so.0
 
 PREFIX = /usr/local
