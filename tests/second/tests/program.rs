@@ -7,6 +7,7 @@ use common::texts::{line, Texts};
 use common::{fewer, floor};
 use second::program;
 use second::rng::Rng;
+use std::ffi::OsString;
 use std::fs::{self, File, OpenOptions};
 use std::io::{Read, Write};
 use std::os::unix::fs::OpenOptionsExt;
@@ -14,7 +15,7 @@ use std::os::unix::process::ExitStatusExt;
 use std::path::{Path, PathBuf};
 use std::process::{Child, Command, ExitStatus, Stdio};
 use std::sync::atomic::{AtomicU64, Ordering::Relaxed};
-use std::sync::OnceLock;
+use std::sync::{Mutex, MutexGuard, OnceLock, PoisonError};
 use std::time::{Duration, Instant};
 use std::{env, process, thread};
 
@@ -39,10 +40,21 @@ fn programs() -> [PathBuf; 2] {
 }
 
 /// A program is for x86-64: elsewhere it stands behind the emulator that HZ_RUN names.
+fn emulator() -> Option<OsString> {
+    env::var_os("HZ_RUN").filter(|run| !run.is_empty())
+}
+
+/// An emulated process can hang when it starts another while threads of it are busy: there the tests of this file
+/// take turns.
+fn turn() -> Option<MutexGuard<'static, ()>> {
+    static TURN: Mutex<()> = Mutex::new(());
+    emulator().map(|_| TURN.lock().unwrap_or_else(PoisonError::into_inner))
+}
+
 fn command(program: &Path) -> Command {
-    match env::var_os("HZ_RUN").filter(|run| !run.is_empty()) {
-        Some(run) => {
-            let mut command = Command::new(run);
+    match emulator() {
+        Some(emulator) => {
+            let mut command = Command::new(emulator);
             command.arg(program);
             command
         }
@@ -155,6 +167,7 @@ fn lines(rng: &mut Rng, count: usize) -> Vec<u8> {
 /// Good, damaged, long and empty lines, with and without carriage returns, in pieces of all sizes.
 #[test]
 fn a_million_lines_in_pieces() {
+    let _turn = turn();
     let mut rng = Rng::new(121);
     let input = lines(&mut rng, fewer(1_000_000) as usize);
     let answers = program::printed(&input);
@@ -178,6 +191,7 @@ fn a_million_lines_in_pieces() {
 /// Each kind of input anew, in pieces, with the last line feed or without.
 #[test]
 fn many_short_inputs() {
+    let _turn = turn();
     let mut rng = Rng::new(122);
     for _ in 0..fewer(1_000) {
         let count = rng.below(8) as usize;
@@ -192,6 +206,7 @@ fn many_short_inputs() {
 /// Two pieces with a pause between them, so that the program reads each by itself.
 #[test]
 fn a_cut_at_every_place() {
+    let _turn = turn();
     let long = [&[b'0'; 66][..], GOOD].concat();
     let all = [
         GOOD,
@@ -210,6 +225,7 @@ fn a_cut_at_every_place() {
 
 #[test]
 fn one_byte_at_a_time() {
+    let _turn = turn();
     let mut rng = Rng::new(123);
     let input = lines(&mut rng, 100);
     let bytes = input.chunks(1).collect::<Vec<_>>();
@@ -219,6 +235,7 @@ fn one_byte_at_a_time() {
 /// Document 01's own example, to the letter.
 #[test]
 fn known_lines() {
+    let _turn = turn();
     let input = b"2016-12-31T23:59:60\n2015-12-31T23:59:60\n";
     for program in programs() {
         let found = printed(&program, &[input], Duration::ZERO);
@@ -229,6 +246,7 @@ fn known_lines() {
 /// Inputs without a line, with empty lines alone, and with a last line that lacks its line feed.
 #[test]
 fn edge_inputs() {
+    let _turn = turn();
     let known: [(&[u8], &[u8]); 12] = [
         (b"", b""),
         (b"\n", b"refused 1\n"),
@@ -256,6 +274,7 @@ fn edge_inputs() {
 /// good a code as what is before it.
 #[test]
 fn long_lines() {
+    let _turn = turn();
     let padding: [&[u8]; 6] = [b"0", b" ", b"\0", b"\r", b"Z", b"2016-12-31T23:59:60Z\r"];
     let mut rng = Rng::new(124);
     for length in (0..=140).chain([255, 256, 257, 4_096, 65_535, 65_536, 65_537, 100_000]) {
@@ -273,6 +292,7 @@ fn long_lines() {
 /// A single line of ten million bytes, and any bytes at all.
 #[test]
 fn rubbish() {
+    let _turn = turn();
     let mut rng = Rng::new(125);
     let rubbish = any_bytes(&mut rng, 3_000_000);
     compare(&pieces(&mut rng, &rubbish), Duration::ZERO);
@@ -326,6 +346,7 @@ fn assert_ended(found: (Vec<u8>, String, ExitStatus), printed: &[u8], said: &str
 /// A directory can be opened and not read.
 #[test]
 fn input_from_a_directory() {
+    let _turn = turn();
     for program in programs() {
         let folder = File::open("/").expect("there is a directory");
         let child = spawn(command(&program).stdin(folder), Stdio::piped());
@@ -335,6 +356,7 @@ fn input_from_a_directory() {
 
 #[test]
 fn input_closed() {
+    let _turn = turn();
     for program in programs() {
         let child = spawn(&mut command_after("exec <&-", &program), Stdio::piped());
         assert_ended(
@@ -349,6 +371,7 @@ fn input_closed() {
 /// answered, and what is there of another is not: nobody sent it so.
 #[test]
 fn input_cut_in_a_line() {
+    let _turn = turn();
     let line = [GOOD, b"\n"].concat();
     let answer = b"2016-12-31T23:59:60.000Z\n";
     let inputs: [(&[u8], &[u8]); 5] = [
@@ -408,6 +431,7 @@ fn interrupting() -> PathBuf {
 /// An interrupted call is made again, a thousand times at most.
 #[test]
 fn interrupted_calls() {
+    let _turn = turn();
     let line = [GOOD, b"\n"].concat();
     for program in programs() {
         for (stream, times) in ["input", "output"]
@@ -435,6 +459,7 @@ fn interrupted_calls() {
 /// The signal of a broken pipe ends a program without a word, unless it is ignored: then the program says so.
 #[test]
 fn output_closed_early() {
+    let _turn = turn();
     const BROKEN_PIPE: i32 = 13;
     for program in programs() {
         for wanted in [0, 1, 25, 100_000] {
@@ -465,6 +490,7 @@ fn output_closed_early() {
 
 #[test]
 fn output_to_a_full_device() {
+    let _turn = turn();
     for program in programs() {
         let full = OpenOptions::new().write(true).open("/dev/full");
         let full = full.expect("there is a full device");
@@ -478,6 +504,7 @@ fn output_to_a_full_device() {
 /// Also when the only answer is that of a last line without its line feed.
 #[test]
 fn output_closed() {
+    let _turn = turn();
     for program in programs() {
         let mut command = command_after("exec >&-", &program);
         let mut child = spawn(command.stdin(Stdio::piped()), Stdio::piped());
