@@ -2,7 +2,7 @@
 
 mod common;
 
-use common::{after, fewer, widened, Tally};
+use common::{after, fewer, stride, widened, Tally};
 use honigzange::{raw, Refusal, Utc};
 use second::leap;
 use second::rng::{i64_edges, u64_edges, Rng};
@@ -128,7 +128,8 @@ fn covered_days_adjoin() {
 #[test]
 fn strides_through_the_cover() {
     let (mut rng, mut tally, mut steps) = (Rng::new(24), Tally::default(), 0);
-    for sec in (FIRST_SECOND..=LAST_SECOND).step_by(101) {
+    let stride = stride(101);
+    for sec in (FIRST_SECOND..=LAST_SECOND).step_by(stride) {
         compare_utc_of_second(&mut rng, &mut tally, sec);
         let Utc {
             day,
@@ -139,7 +140,10 @@ fn strides_through_the_cover() {
         assert_eq!(honigzange::second_of_utc(day, second), Ok(sec));
         steps += 1;
     }
-    assert_eq!(steps, (LAST_SECOND - FIRST_SECOND) as u64 / 101 + 1);
+    assert_eq!(
+        steps,
+        (LAST_SECOND - FIRST_SECOND) as u64 / stride as u64 + 1
+    );
     tally.assert_exactly(&[(0, steps)]);
 }
 

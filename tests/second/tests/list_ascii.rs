@@ -8,7 +8,7 @@ use common::lists::{
 };
 use common::tags::{edge_shapes, fill, shapes, Numbers, Seconds};
 use common::texts::{any_characters, damage};
-use common::{after, fewer, floor, Scale};
+use common::{after, fewer, floor, stride, Scale};
 use honigzange::{raw, Listing, Record, Refusal};
 use second::rng::Rng;
 use second::{ascii_tag, leap};
@@ -281,7 +281,7 @@ fn every_time() {
         let (first, second) = (numbers / 100, numbers % 100);
         times.extend(["", ":", "--30T"].map(|start| format!("{start}{first:02}:{second:02}")));
     }
-    for numbers in (0..=999_999).step_by(7) {
+    for numbers in (0..=999_999).step_by(stride(7)) {
         let (hour, minute, second) = (numbers / 10_000, numbers / 100 % 100, numbers % 100);
         times.push(format!("{hour:02}:{minute:02}:{second:02}"));
     }

@@ -31,6 +31,11 @@ pub fn fewer(count: u64) -> u64 {
     count.div_ceil(factor())
 }
 
+/// How far apart cases are that stand for those between them, where it would be so far. An odd number stays odd.
+pub fn stride(apart: usize) -> usize {
+    apart * (2 * (factor() as usize / 2) + 1)
+}
+
 /// What random cases must hit of a kind where it would be so often. A few cases scatter more than many.
 pub fn floor(count: u64) -> u64 {
     count / (2 * factor() - 1)
