@@ -134,6 +134,17 @@ pub fn index_of_ordinal(year: u64, day: u64) -> IndexAnswer
     }
 }
 
+// The index with a day number.
+pub fn index_of_day(number: i64) -> IndexAnswer
+    ensures { λ r. ⌜ saysIndex r ≡ indexOfDay number ⌝ }
+{
+    let seat = base::seated(-714779, 2937279, number);
+    match seat {
+        Seat::In(index) => IndexAnswer::Done(index),
+        Seat::Out => IndexAnswer::Refused(Refusal::Range),
+    }
+}
+
 // The date with an index.
 pub fn date_at(index: u64) -> DateAnswer
     ensures { λ r. ⌜ saysDate r ≡ dateAt index ⌝ }
@@ -291,17 +302,6 @@ fn date_in(o: Ordinal) -> Date
         year: o.year,
         month: month,
         day: day,
-    }
-}
-
-// The index with a day number.
-fn index_of_day(number: i64) -> IndexAnswer
-    ensures { λ r. ⌜ saysIndex r ≡ indexOfDay number ⌝ }
-{
-    let seat = base::seated(-714779, 2937279, number);
-    match seat {
-        Seat::In(index) => IndexAnswer::Done(index),
-        Seat::Out => IndexAnswer::Refused(Refusal::Range),
     }
 }
 
