@@ -37,6 +37,9 @@ impl Refusal {
     }
 }
 
+// 2^63 less 2^41: how far a raised second is raised beyond one that is counted from the first second of a record.
+pub const RECORD_BIAS: u64 = 9223369837831520256;
+
 // z + 2^63. All arithmetic on signed numbers is done on these.
 pub fn raised(z: i64) -> u64
     ensures { λ r. ⌜ at (2 ^ 63) r z ⌝ }

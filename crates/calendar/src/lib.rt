@@ -67,6 +67,9 @@ pub enum OrdinalAnswer {
     Refused(Refusal),
 }
 
+// What `lowered` takes off too much of an index: 2^63 less the 714,779 days before 1958-01-01.
+pub const DAY_BIAS: u64 = 9223372036854061029;
+
 // The month lengths of ordinary years, and of leap years.
 const MONTHS: [[u8; 12]; 2] = [
     [31, 28, 31, 30, 31, 30, 31, 31, 30, 31, 30, 31],
@@ -305,14 +308,14 @@ fn date_in(o: Ordinal) -> Date
     }
 }
 
-// The day number of an index. `lowered` takes off 2^63, so what is added leaves 714,779 to take off.
+// The day number of an index.
 fn numbered(answer: IndexAnswer) -> DayAnswer
     requires { ⌜ ((n : ℕ) → saysIndex answer ≡ done n → n ≤ 3652058) ⌝ }
     ensures { λ r. ⌜ saysDay r ≡ given fromEpoch (saysIndex answer) ⌝ }
 {
     match answer {
         IndexAnswer::Done(index) => {
-            let number = base::lowered(index + 9223372036854061029);
+            let number = base::lowered(index + DAY_BIAS);
             DayAnswer::Done(number)
         }
         IndexAnswer::Refused(refusal) => DayAnswer::Refused(refusal),

@@ -42,7 +42,7 @@ fn run(base: u64, period: u64, from: u64, to: u64, ticks: u64, out: &mut [i64]) 
                 more: true,
             };
         }
-        let sec = base::lowered(at + 9223369837831520256);
+        let sec = base::lowered(at + base::RECORD_BIAS);
         out[n] = sec;
         n += 1;
         at += period;

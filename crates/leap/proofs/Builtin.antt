@@ -10,7 +10,7 @@ use borrow.Author.Tests.{leb-true, le-leb, lt-leb, lt-ltb, le-ltb}
 use Rattle.base.proofs.Bools.{and-true, and-yes, and-no, and-false}
 use Rattle.leap.specs.declared.Row.{Row}
 use Rattle.leap.specs.Table.{good, offset, start, covers, coversSecond}
-use Rattle.leap.specs.Builtin.{published, rowOf, noRow, leaps, builtin}
+use Rattle.leap.specs.Builtin.{published, rowOf, noRow, leaps, builtin, firstIndex, firstRaised, lastIndex, pastIndex, pastRaised}
 use Rattle.leap.specs.Inner.{rowAt, endAt, Small}
 
 pub builtin-good : good builtin ≡ true
@@ -22,39 +22,39 @@ unfolding builtin
 later-rows = refl
 
 -- the cover's ends, of days and of raised seconds
-pub covered-days : (d : ℕ) → covers builtin d ≡ (leb 719892 d && leb d 739615)
+pub covered-days : (d : ℕ) → covers builtin d ≡ (leb firstIndex d && leb d lastIndex)
 unfolding covers builtin
 covered-days d = refl
 
-pub covered-seconds : (s : ℕ) → coversSecond builtin s ≡ (leb 62198668874 s && ltb s 63902822501)
+pub covered-seconds : (s : ℕ) → coversSecond builtin s ≡ (leb firstRaised s && ltb s pastRaised)
 unfolding coversSecond start offset builtin
 covered-seconds s = refl
 
-pub first-second : start builtin (builtin .first .day) ≡ 62198668874
+pub first-second : start builtin (builtin .first .day) ≡ firstRaised
 unfolding start offset builtin
 first-second = refl
 
-pub past-second : start builtin (739615 + 1) ≡ 63902822501
+pub past-second : start builtin (lastIndex + 1) ≡ pastRaised
 unfolding start offset builtin
 past-second = refl
 
-pub day-in : (d : ℕ) → 719892 ≤ d → d ≤ 739615 → covers builtin d ≡ true
-day-in d l h = covered-days d ∙ and-yes _ (le-leb 719892 d l) ∙ le-leb d 739615 h
+pub day-in : (d : ℕ) → firstIndex ≤ d → d ≤ lastIndex → covers builtin d ≡ true
+day-in d l h = covered-days d ∙ and-yes _ (le-leb firstIndex d l) ∙ le-leb d lastIndex h
 
-pub day-under : (d : ℕ) → d < 719892 → covers builtin d ≡ false
-day-under d h = covered-days d ∙ and-no _ (lt-leb 719892 d h)
+pub day-under : (d : ℕ) → d < firstIndex → covers builtin d ≡ false
+day-under d h = covered-days d ∙ and-no _ (lt-leb firstIndex d h)
 
-pub day-over : (d : ℕ) → 739615 < d → covers builtin d ≡ false
-day-over d h = covered-days d ∙ and-false (leb 719892 d) (leb d 739615) (lt-leb d 739615 h)
+pub day-over : (d : ℕ) → lastIndex < d → covers builtin d ≡ false
+day-over d h = covered-days d ∙ and-false (leb firstIndex d) (leb d lastIndex) (lt-leb d lastIndex h)
 
-pub second-in : (s : ℕ) → 62198668874 ≤ s → s < 63902822501 → coversSecond builtin s ≡ true
-second-in s l h = covered-seconds s ∙ and-yes _ (le-leb 62198668874 s l) ∙ lt-ltb s 63902822501 h
+pub second-in : (s : ℕ) → firstRaised ≤ s → s < pastRaised → coversSecond builtin s ≡ true
+second-in s l h = covered-seconds s ∙ and-yes _ (le-leb firstRaised s l) ∙ lt-ltb s pastRaised h
 
-pub second-under : (s : ℕ) → s < 62198668874 → coversSecond builtin s ≡ false
-second-under s h = covered-seconds s ∙ and-no _ (lt-leb 62198668874 s h)
+pub second-under : (s : ℕ) → s < firstRaised → coversSecond builtin s ≡ false
+second-under s h = covered-seconds s ∙ and-no _ (lt-leb firstRaised s h)
 
-pub second-over : (s : ℕ) → 63902822501 ≤ s → coversSecond builtin s ≡ false
-second-over s h = covered-seconds s ∙ and-false (leb 62198668874 s) (ltb s 63902822501) (le-ltb s 63902822501 h)
+pub second-over : (s : ℕ) → pastRaised ≤ s → coversSecond builtin s ≡ false
+second-over s h = covered-seconds s ∙ and-false (leb firstRaised s) (ltb s pastRaised) (le-ltb s pastRaised h)
 
 -- a row of a mapped list is the row mapped
 pub at-map : {A : Type 0} (f : A → Row) (xs : List A) (x : A) (i : ℕ) → i < length xs → getD (map f xs) i noRow ≡ f (getD xs i x)
@@ -77,12 +77,12 @@ pass-at f (y ∷ xs) x e zero h = and-true (f y) (passes f xs) e .0
 pass-at f (y ∷ xs) x e (suc i) h = pass-at f xs x (and-true (f y) (passes f xs) e .1) i (le-of-suc-le-suc h)
 
 abbrev small : Row → Bool
-small r = leb 719892 (r .day) && leb (r .day) 739616 && leb (r .offset) 101
+small r = leb firstIndex (r .day) && leb (r .day) pastIndex && leb (r .offset) 101
 
 small-is : (r : Row) → small r ≡ true → Small r
 small-is r e =
-    let (h, o) = and-true (leb 719892 (r .day) && leb (r .day) 739616) (leb (r .offset) 101) e in
-    let (l, d) = and-true (leb 719892 (r .day)) (leb (r .day) 739616) h in
+    let (h, o) = and-true (leb firstIndex (r .day) && leb (r .day) pastIndex) (leb (r .offset) 101) e in
+    let (l, d) = and-true (leb firstIndex (r .day)) (leb (r .day) pastIndex) h in
     record { day-low = leb-true _ _ l; day-high = leb-true _ _ d; offset-high = leb-true _ _ o }
 
 pub row-small : (i : ℕ) → i < 28 → Small (rowAt builtin i)
@@ -95,4 +95,4 @@ row-read i h = (sym (ap (λ (x : Row). x .day) (row-is i h)), sym (ap (λ (x : R
 
 pub end-small : (i : ℕ) → i < 28 → Small (endAt builtin i)
 unfolding builtin
-end-small i h = small-is (endAt builtin i) (pass-at small (drop 1 leaps ++ (record { day = 739616; offset = 101 } ∷ [])) noRow refl i h)
+end-small i h = small-is (endAt builtin i) (pass-at small (drop 1 leaps ++ (record { day = pastIndex; offset = 101 } ∷ [])) noRow refl i h)

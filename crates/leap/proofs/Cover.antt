@@ -17,7 +17,7 @@ use Rattle.base.proofs.Signed.{within-yes, seat-in, seat-out}
 use Rattle.leap.specs.declared.Row.{Row}
 use Rattle.leap.specs.declared.Reading.{Reading}
 use Rattle.leap.specs.Table.{offFrom, offset, start, dayLength, dayHolding, covers, coversSecond, secondAt, reading, readingAt}
-use Rattle.leap.specs.Builtin.{builtin}
+use Rattle.leap.specs.Builtin.{builtin, firstDay, firstIndex, firstRaised, firstSecond, lastDay, lastIndex, lastSecond, pastRaised}
 use Rattle.leap.specs.Utc.{dayRaise, secondRaise, raisedBy, readingOf, secondOf}
 use Rattle.leap.proofs.Days.{holding-le}
 use Rattle.leap.proofs.Builtin.{builtin-good, covered-days, covered-seconds, second-in, first-second, past-second, passes}
@@ -30,43 +30,43 @@ fails true f = f refl
 fails false f = refl
 
 -- ---- TAI seconds
-pub seconds-in : (z : ℤ) (n : ℕ) → seatOf (pos 441763210) (pos 2145916836) z ≡ In n → (at secondRaise (n + 62198668874) z) × (n + 62198668874 < 63902822501)
-seconds-in z n e = let s = seat-in (pos 441763210) (pos 2145916836) z n e in (omega (arith, s .place), omega (arith, s .place, s .high))
+pub seconds-in : (z : ℤ) (n : ℕ) → seatOf (pos firstSecond) (pos lastSecond) z ≡ In n → (at secondRaise (n + firstRaised) z) × (n + firstRaised < pastRaised)
+seconds-in z n e = let s = seat-in (pos firstSecond) (pos lastSecond) z n e in (omega (arith, s .place), omega (arith, s .place, s .high))
 
-pub reading-in : (z : ℤ) (n : ℕ) → seatOf (pos 441763210) (pos 2145916836) z ≡ In n → readingOf builtin z ≡ done (reading builtin (dayHolding builtin (n + 62198668874)) (n + 62198668874 - start builtin (dayHolding builtin (n + 62198668874))))
+pub reading-in : (z : ℤ) (n : ℕ) → seatOf (pos firstSecond) (pos lastSecond) z ≡ In n → readingOf builtin z ≡ done (reading builtin (dayHolding builtin (n + firstRaised)) (n + firstRaised - start builtin (dayHolding builtin (n + firstRaised))))
 unfolding readingOf
 reading-in z n e =
     let (a, h) = seconds-in z n e in
-    ap (λ (x : Outcome ℕ). andThen x (readingAt builtin)) (raise-at secondRaise (n + 62198668874) z a)
-    ∙ reading-done builtin (n + 62198668874) (second-in (n + 62198668874) (omega arith) h)
+    ap (λ (x : Outcome ℕ). andThen x (readingAt builtin)) (raise-at secondRaise (n + firstRaised) z a)
+    ∙ reading-done builtin (n + firstRaised) (second-in (n + firstRaised) (omega arith) h)
 
-uncovered-second : (z : ℤ) (n : ℕ) → within (pos 441763210) (pos 2145916836) z ≡ false → at secondRaise n z → coversSecond builtin n ≡ false
+uncovered-second : (z : ℤ) (n : ℕ) → within (pos firstSecond) (pos lastSecond) z ≡ false → at secondRaise n z → coversSecond builtin n ≡ false
 uncovered-second z n w a =
     fails (coversSecond builtin n) (λ c.
-    let (p, q) = and-true (leb 62198668874 n) (ltb n 63902822501) (sym (covered-seconds n) ∙ c) in
-    never-both (within-yes (pos 441763210) (pos 2145916836) z (omega (arith, leb-true 62198668874 n p)) (omega (arith, ltb-true n 63902822501 q))) w)
+    let (p, q) = and-true (leb firstRaised n) (ltb n pastRaised) (sym (covered-seconds n) ∙ c) in
+    never-both (within-yes (pos firstSecond) (pos lastSecond) z (omega (arith, leb-true firstRaised n p)) (omega (arith, ltb-true n pastRaised q))) w)
 
-pub reading-out : (z : ℤ) → seatOf (pos 441763210) (pos 2145916836) z ≡ Out → readingOf builtin z ≡ refused 5
+pub reading-out : (z : ℤ) → seatOf (pos firstSecond) (pos lastSecond) z ≡ Out → readingOf builtin z ≡ refused 5
 unfolding readingOf
 reading-out z e =
     raise-out secondRaise z (readingAt builtin)
-    (λ n a. reading-uncovered builtin n (uncovered-second z n (seat-out (pos 441763210) (pos 2145916836) z e) a))
+    (λ n a. reading-uncovered builtin n (uncovered-second z n (seat-out (pos firstSecond) (pos lastSecond) z e) a))
 
 -- ---- UTC days
-pub days-in : (z : ℤ) (n : ℕ) → seatOf (pos 5113) (pos 24836) z ≡ In n → (at dayRaise (n + 719892) z) × (n ≤ 19723)
-days-in z n e = let s = seat-in (pos 5113) (pos 24836) z n e in (omega (arith, s .place), omega (arith, s .place, s .high))
+pub days-in : (z : ℤ) (n : ℕ) → seatOf (pos firstDay) (pos lastDay) z ≡ In n → (at dayRaise (n + firstIndex) z) × (n ≤ lastDay - firstDay)
+days-in z n e = let s = seat-in (pos firstDay) (pos lastDay) z n e in (omega (arith, s .place), omega (arith, s .place, s .high))
 
-uncovered-day : (z : ℤ) (n : ℕ) → within (pos 5113) (pos 24836) z ≡ false → at dayRaise n z → covers builtin n ≡ false
+uncovered-day : (z : ℤ) (n : ℕ) → within (pos firstDay) (pos lastDay) z ≡ false → at dayRaise n z → covers builtin n ≡ false
 uncovered-day z n w a =
     fails (covers builtin n) (λ c.
-    let (p, q) = and-true (leb 719892 n) (leb n 739615) (sym (covered-days n) ∙ c) in
-    never-both (within-yes (pos 5113) (pos 24836) z (omega (arith, leb-true 719892 n p)) (omega (arith, leb-true n 739615 q))) w)
+    let (p, q) = and-true (leb firstIndex n) (leb n lastIndex) (sym (covered-days n) ∙ c) in
+    never-both (within-yes (pos firstDay) (pos lastDay) z (omega (arith, leb-true firstIndex n p)) (omega (arith, leb-true n lastIndex q))) w)
 
-pub days-out : (z : ℤ) (x : ℕ) → x ≤ 86400 → seatOf (pos 5113) (pos 24836) z ≡ Out → andThen (raisedBy dayRaise z) (λ n. secondOf builtin n x) ≡ refused 5
+pub days-out : (z : ℤ) (x : ℕ) → x ≤ 86400 → seatOf (pos firstDay) (pos lastDay) z ≡ Out → andThen (raisedBy dayRaise z) (λ n. secondOf builtin n x) ≡ refused 5
 unfolding secondOf
 days-out z x h e =
     raise-out dayRaise z (λ n. given (loweredBy secondRaise) (secondAt builtin n x))
-    (λ n a. ap (given (loweredBy secondRaise)) (second-uncovered builtin n x h (uncovered-day z n (seat-out (pos 5113) (pos 24836) z e) a)))
+    (λ n a. ap (given (loweredBy secondRaise)) (second-uncovered builtin n x h (uncovered-day z n (seat-out (pos firstDay) (pos lastDay) z e) a)))
 
 -- ---- what the machine's sums need
 abbrev low : Row → Bool
@@ -92,14 +92,14 @@ second-low d x s e =
     let (p, q) = need-done (leb x 86400) 4 _ s e in
     let (c, r) = need-done (covers builtin d) 5 _ s q in
     let (l, m) = need-done (ltb x (dayLength builtin d)) 6 _ s r in
-    let h : leb d 739615 ≡ true = and-true (leb 719892 d) (leb d 739615) (sym (covered-days d) ∙ c) .1 in
-    omega (arith, done-is _ s m, offset-low d, leb-true x 86400 p, leb-true d 739615 h)
+    let h : leb d lastIndex ≡ true = and-true (leb firstIndex d) (leb d lastIndex) (sym (covered-days d) ∙ c) .1 in
+    omega (arith, done-is _ s m, offset-low d, leb-true x 86400 p, leb-true d lastIndex h)
 
-pub reading-low : (z : ℤ) (r : Reading) → readingOf builtin z ≡ done r → (r .day ≤ 739615) × (r .offset ≤ 101)
+pub reading-low : (z : ℤ) (r : Reading) → readingOf builtin z ≡ done r → (r .day ≤ lastIndex) × (r .offset ≤ 101)
 unfolding readingOf readingAt
 reading-low z r e =
     let (s, k) = then-done (raisedBy secondRaise z) (readingAt builtin) r e in
     let (c, m) = need-done (coversSecond builtin s) 5 (done (reading builtin (dayHolding builtin s) (s - start builtin (dayHolding builtin s)))) r (k .1) in
-    let (p, q) = and-true (leb 62198668874 s) (ltb s 63902822501) (sym (covered-seconds s) ∙ c) in
-    let h : dayHolding builtin s ≤ 739615 = holding-le builtin builtin-good s 739615 (rw first-second (leb-true 62198668874 s p)) (rw past-second (ltb-true s 63902822501 q)) in
+    let (p, q) = and-true (leb firstRaised s) (ltb s pastRaised) (sym (covered-seconds s) ∙ c) in
+    let h : dayHolding builtin s ≤ lastIndex = holding-le builtin builtin-good s lastIndex (rw first-second (leb-true firstRaised s p)) (rw past-second (ltb-true s pastRaised q)) in
     rw (← done-is _ r m) (h, offset-low (dayHolding builtin s))

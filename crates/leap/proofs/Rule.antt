@@ -19,7 +19,7 @@ use Rattle.calendar.specs.Gregorian.{kind, yearStart, yearsTo, row, monthLength
 use Rattle.leap.specs.declared.Row.{Row}
 use Rattle.leap.specs.declared.Utc.{Utc}
 use Rattle.leap.specs.Table.{offset, dayLength}
-use Rattle.leap.specs.Builtin.{leaps, noRow, builtin}
+use Rattle.leap.specs.Builtin.{leaps, noRow, builtin, firstSecond, lastSecond}
 use Rattle.leap.specs.Utc.{utc, utcOfSecond}
 use Rattle.leap.specs.Rule.{dated, rowOn, onHalfYear, follows, neighbours}
 use Rattle.leap.specs.Inner.{rowAt, endAt, OnDay}
@@ -119,10 +119,10 @@ long-day i h =
     omega (arith, f, adds-one i h)
 
 -- "Covered TAI seconds are 441,763,210 to 2,145,916,836": each has a reading, and no other second has
-pub covered : (z : ℤ) → within (pos 441763210) (pos 2145916836) z ≡ true → (u : Utc) × (utcOfSecond builtin z ≡ done u)
+pub covered : (z : ℤ) → within (pos firstSecond) (pos lastSecond) z ≡ true → (u : Utc) × (utcOfSecond builtin z ≡ done u)
 unfolding utcOfSecond seatOf
 covered z w = (_, ap (given utc) (reading-in z _ (cond-yes _ _ w)))
 
-pub uncovered : (z : ℤ) → within (pos 441763210) (pos 2145916836) z ≡ false → utcOfSecond builtin z ≡ refused 5
+pub uncovered : (z : ℤ) → within (pos firstSecond) (pos lastSecond) z ≡ false → utcOfSecond builtin z ≡ refused 5
 unfolding utcOfSecond seatOf
 uncovered z w = ap (given utc) (reading-out z (cond-no _ _ w))

@@ -3,7 +3,7 @@ use Prim.Native.Nat.{ℕ, _+_, _*_, _<_, _≤_}
 use mathlib.Core.List.{[], _∷_, _++_}
 use lib.ListN.{getD}
 use Rattle.leap.specs.Table.{Table, lastRow}
-use Rattle.leap.specs.Builtin.{noRow}
+use Rattle.leap.specs.Builtin.{noRow, firstIndex, pastIndex}
 use Rattle.leap.specs.declared.Row.{Row}
 
 -- row i of a table, and what ends it: the next row, or past the cover the same offset again
@@ -21,8 +21,8 @@ begins r = r .day * 86400 + r .offset
 
 -- small enough for the machine's sums
 pub record Small (r : Row) : Type 0 where
-  pub day-low : 719892 ≤ r .day
-  pub day-high : r .day ≤ 739616
+  pub day-low : firstIndex ≤ r .day
+  pub day-high : r .day ≤ pastIndex
   pub offset-high : r .offset ≤ 101
 
 -- row i is in force on day d, and in TAI second s

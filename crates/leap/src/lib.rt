@@ -8,7 +8,7 @@ ghost use Prim.Native.Nat.{_-_, _≤_, _<_};
 ghost use Rattle.leap.specs.Table.{start, dayHolding, reading, secondAt, readingAt, dayOn, dayAt};
 ghost use Rattle.leap.specs.Utc.{readingOf, secondOf, utcOfSecond, secondOfUtc};
 ghost use Rattle.leap.specs.Answers.{saysRaised, saysReading, saysSecond, saysUtc, saysDay};
-ghost use Rattle.leap.specs.Builtin.{builtin};
+ghost use Rattle.leap.specs.Builtin.{builtin, firstIndex, pastIndex, firstRaised, pastRaised};
 ghost use Rattle.leap.specs.Inner.{rowAt, endAt, Small, OnDay, InSecond};
 
 // A day and TAI minus UTC from it on.
@@ -63,6 +63,39 @@ pub enum DayAnswer {
     Refused(Refusal),
 }
 
+// The cover's ends: days counted from 1958-01-01, TAI seconds, and both raised as they are inside; PAST is the first
+// past the cover.
+pub const FIRST_DAY: i64 = 5113;
+
+pub const LAST_DAY: i64 = 24836;
+
+pub const FIRST_SECOND: i64 = 441763210;
+
+pub const LAST_SECOND: i64 = 2145916836;
+
+const FIRST_INDEX: u64 = 719892;
+
+const PAST_INDEX: u64 = 739616;
+
+pub const FIRST_RAISED: u64 = 62198668874;
+
+pub const PAST_RAISED: u64 = 63902822501;
+
+// What `lowered` takes off too much of an offset and of a second: 2^63 less what each was raised by.
+
+const OFFSET_BIAS: u64 = 9223372036854775744;
+
+pub const SECOND_BIAS: u64 = 9223371975097870144;
+
+// How far each is raised, and when the last row begins.
+const DAY_RAISE: u64 = 714779;
+
+const OFFSET_RAISE: u64 = 64;
+
+const SECOND_RAISE: u64 = 61756905664;
+
+const LAST_ROW_BEGINS: u64 = 63618825701;
+
 // Days are counted from 1958-01-01.
 const LEAPS: [[u16; 2]; 28] = [
     [5113, 10],
@@ -102,8 +135,8 @@ pub fn utc_of_second(sec: i64) -> UtcAnswer
     match reading_of(sec) {
         ReadingAnswer::Refused(why) => UtcAnswer::Refused(why),
         ReadingAnswer::Done(r) => {
-            let day = base::lowered(r.day + 9223372036854061029);
-            let offset = base::lowered(r.offset + 9223372036854775744);
+            let day = base::lowered(r.day + calendar::DAY_BIAS);
+            let offset = base::lowered(r.offset + OFFSET_BIAS);
             UtcAnswer::Done(Utc {
                 day: day,
                 second: r.second,
@@ -120,9 +153,9 @@ pub fn second_of_utc(day: i64, second: u64) -> SecondAnswer
     if 86400 < second {
         return SecondAnswer::Refused(Refusal::Field);
     }
-    match base::seated(5113, 24836, day) {
+    match base::seated(FIRST_DAY, LAST_DAY, day) {
         Seat::Out => SecondAnswer::Refused(Refusal::Uncovered),
-        Seat::In(n) => second_of(n + 719892, second),
+        Seat::In(n) => second_of(n + FIRST_INDEX, second),
     }
 }
 
@@ -130,9 +163,9 @@ pub fn second_of_utc(day: i64, second: u64) -> SecondAnswer
 pub fn reading_of(sec: i64) -> ReadingAnswer
     ensures { λ r. ⌜ saysReading r ≡ readingOf builtin sec ⌝ }
 {
-    match base::seated(441763210, 2145916836, sec) {
+    match base::seated(FIRST_SECOND, LAST_SECOND, sec) {
         Seat::Out => ReadingAnswer::Refused(Refusal::Uncovered),
-        Seat::In(n) => ReadingAnswer::Done(locate(n + 62198668874)),
+        Seat::In(n) => ReadingAnswer::Done(locate(n + FIRST_RAISED)),
     }
 }
 
@@ -141,7 +174,7 @@ pub fn second_of(day: u64, second: u64) -> SecondAnswer
 {
     match second_at(day, second) {
         RaisedAnswer::Refused(why) => SecondAnswer::Refused(why),
-        RaisedAnswer::Done(s) => SecondAnswer::Done(base::lowered(s + 9223371975097870144)),
+        RaisedAnswer::Done(s) => SecondAnswer::Done(base::lowered(s + SECOND_BIAS)),
     }
 }
 
@@ -152,10 +185,10 @@ pub fn second_at(day: u64, second: u64) -> RaisedAnswer
     if 86400 < second {
         return RaisedAnswer::Refused(Refusal::Field);
     }
-    if day < 719892 {
+    if day < FIRST_INDEX {
         return RaisedAnswer::Refused(Refusal::Uncovered);
     }
-    if 739615 < day {
+    if PAST_INDEX <= day {
         return RaisedAnswer::Refused(Refusal::Uncovered);
     }
     let i = row_on_day(day);
@@ -173,10 +206,10 @@ pub fn second_at(day: u64, second: u64) -> RaisedAnswer
 pub fn reading_at(s: u64) -> ReadingAnswer
     ensures { λ r. ⌜ saysReading r ≡ readingAt builtin s ⌝ }
 {
-    if s < 62198668874 {
+    if s < FIRST_RAISED {
         return ReadingAnswer::Refused(Refusal::Uncovered);
     }
-    if 63902822500 < s {
+    if PAST_RAISED <= s {
         return ReadingAnswer::Refused(Refusal::Uncovered);
     }
     ReadingAnswer::Done(locate(s))
@@ -186,10 +219,10 @@ pub fn reading_at(s: u64) -> ReadingAnswer
 pub fn day_at(day: u64) -> DayAnswer
     ensures { λ r. ⌜ saysDay r ≡ dayAt builtin day ⌝ }
 {
-    if day < 719892 {
+    if day < FIRST_INDEX {
         return DayAnswer::Refused(Refusal::Uncovered);
     }
-    if 739615 < day {
+    if PAST_INDEX <= day {
         return DayAnswer::Refused(Refusal::Uncovered);
     }
     DayAnswer::Done(day_in_row(day, row_on_day(day)))
@@ -197,7 +230,7 @@ pub fn day_at(day: u64) -> DayAnswer
 
 // The row in force on a covered day. No offset is over 101: by then each row whose day has come has begun.
 fn row_on_day(day: u64) -> usize
-    requires { ⌜ (719892 ≤ day) × (day < 739616) ⌝ }
+    requires { ⌜ (firstIndex ≤ day) × (day < pastIndex) ⌝ }
     ensures { λ i. ⌜ OnDay builtin day i ⌝ }
 {
     row_in_second(day * 86400 + 101)
@@ -223,7 +256,7 @@ fn day_in_row(day: u64, i: usize) -> Day
 
 // The reading of a covered TAI second.
 fn locate(s: u64) -> Reading
-    requires { ⌜ (62198668874 ≤ s) × (s < 63902822501) ⌝ }
+    requires { ⌜ (firstRaised ≤ s) × (s < pastRaised) ⌝ }
     ensures { λ r. ⌜ r ≡ reading builtin (dayHolding builtin s) (s - start builtin (dayHolding builtin s)) ⌝ }
 {
     let i = row_in_second(s);
@@ -251,15 +284,15 @@ fn locate(s: u64) -> Reading
 // The row in force in a covered TAI second: its number is how many later rows have begun. Most seconds that are asked
 // for are in the last row.
 fn row_in_second(s: u64) -> usize
-    requires { ⌜ (62198668874 ≤ s) × (s < 63902822501) ⌝ }
+    requires { ⌜ (firstRaised ≤ s) × (s < pastRaised) ⌝ }
     ensures { λ i. ⌜ InSecond builtin s i ⌝ }
 {
-    if 63618825701 <= s {
+    if LAST_ROW_BEGINS <= s {
         return 27;
     }
     let rows = LEAPS;
     // from 1958-01-01, as the rows are
-    let t = (s - 61756905664) as u32;
+    let t = (s - SECOND_RAISE) as u32;
     // all are counted, and in 32 bits: so it compiles without a branch
     let mut n: u32 = 0;
     let mut i = 1;
@@ -288,7 +321,7 @@ fn end_at(i: usize) -> Row
         return row_at(i + 1);
     }
     Row {
-        day: 739616,
+        day: PAST_INDEX,
         offset: 101,
     }
 }
@@ -299,7 +332,7 @@ fn row_at(i: usize) -> Row
     ensures { λ r. ⌜ (r ≡ rowAt builtin i) × Small r ⌝ }
 {
     let rows = LEAPS;
-    let day = rows[i][0] as u64 + 714779;
-    let offset = rows[i][1] as u64 + 64;
+    let day = rows[i][0] as u64 + DAY_RAISE;
+    let offset = rows[i][1] as u64 + OFFSET_RAISE;
     Row { day, offset }
 }

@@ -10,7 +10,7 @@ use borrow.Author.Tests.{ltb-true, ltb-false, lt-ltb}
 use Rattle.base.specs.Parts.{plus, minus, within}
 use Rattle.base.proofs.Bools.{and-true, and-yes, by-two}
 use Rattle.base.proofs.Signed.{same, sum, difference, line, floor-line, floor-rest, neg-plus, neg-minus, apart, within-low, within-high, within-yes, rest-lt, lt-yes, lt-no, lt-so, lt-not}
-use Rattle.scale.specs.Time.{Time, perSecond, worth, ofTicks, good, earlier}
+use Rattle.scale.specs.Time.{Time, perSecond, worth, ofTicks, good, isRecord, earlier}
 use Rattle.scale.specs.Inner.{Within, Less, Together}
 
 -- ---- a good time, and the same of its parts
@@ -31,6 +31,9 @@ unfolding good
 within-good H t p =
     and-yes _ (within-yes (negℤ (pos H)) (pos (H - 1)) (t .sec) (omega (arith, neg-plus (pos H), neg-minus (pos H))) (omega arith))
     ∙ lt-ltb (t .ticks) perSecond (p .below)
+
+pub record-ticks : (t : Time) → isRecord t ≡ true → t .ticks < perSecond
+record-ticks t e = good-within (2 ^ 41) t (lit< tt) e .below
 
 -- ---- worth, and the time of a worth, are inverse
 pub worth-parts : (t : Time) → plus (worth t) + minus (t .sec) * perSecond ≡ minus (worth t) + (plus (t .sec) * perSecond + t .ticks)

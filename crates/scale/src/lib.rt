@@ -168,7 +168,7 @@ fn apart(a: Record, b: Record) -> Span
     ensures { λ r. ⌜ Less (recorded a) (recorded b) (spanned r) ⌝ }
 {
     // the seconds of b from -2^41 on, and the difference raised by 2^63
-    let from = b.raised() - 9223369837831520256;
+    let from = b.raised() - base::RECORD_BIAS;
     let to = a.raised() - from + 2199023255552;
     let less = b.ticks;
     let more = a.ticks;

@@ -8,7 +8,7 @@ use borrow.Author.Tests.{le-leb, lt-leb, leb-true}
 use Rattle.base.specs.Outcome.{done}
 use Rattle.base.proofs.Bools.{and-true, and-yes, and-no, and-false}
 use Rattle.leap.specs.Table.{Table, good, offset, start, dayLength, covers}
-use Rattle.leap.specs.Builtin.{builtin}
+use Rattle.leap.specs.Builtin.{builtin, firstIndex, firstRaised, lastIndex, pastRaised}
 use Rattle.leap.proofs.Builtin.{covered-days}
 use Rattle.leap.proofs.Days.{start-next, length-range}
 use Rattle.leap.proofs.Outcomes.{second-done}
@@ -25,25 +25,25 @@ covers-between t a b d p q l h =
     let (q0, q1) = and-true (leb (t .first .day) b) (leb b (t .last)) q in
     and-yes _ (le-leb (t .first .day) d (omega (arith, leb-true (t .first .day) a p0))) ∙ le-leb d (t .last) (omega (arith, leb-true b (t .last) q1))
 
-pub cover-ends : (d : ℕ) → covers builtin d ≡ true → (719892 ≤ d) × (d ≤ 739615)
+pub cover-ends : (d : ℕ) → covers builtin d ≡ true → (firstIndex ≤ d) × (d ≤ lastIndex)
 cover-ends d e =
-    let (p, q) = and-true (leb 719892 d) (leb d 739615) (sym (covered-days d) ∙ e) in
+    let (p, q) = and-true (leb firstIndex d) (leb d lastIndex) (sym (covered-days d) ∙ e) in
     (leb-true _ _ p, leb-true _ _ q)
 
 -- the cover's ends, of windows
-covered-window : (from to : ℕ) → coversWindow builtin from to ≡ (leb 62198668874 from && leb to 63902822501)
+covered-window : (from to : ℕ) → coversWindow builtin from to ≡ (leb firstRaised from && leb to pastRaised)
 unfolding coversWindow start offset builtin
 covered-window from to = refl
 
 module _ (from to : ℕ) where
-  pub window-in : 62198668874 ≤ from → to ≤ 63902822501 → coversWindow builtin from to ≡ true
-  window-in l h = covered-window from to ∙ and-yes _ (le-leb 62198668874 from l) ∙ le-leb to 63902822501 h
+  pub window-in : firstRaised ≤ from → to ≤ pastRaised → coversWindow builtin from to ≡ true
+  window-in l h = covered-window from to ∙ and-yes _ (le-leb firstRaised from l) ∙ le-leb to pastRaised h
 
-  pub window-before : from < 62198668874 → coversWindow builtin from to ≡ false
-  window-before h = covered-window from to ∙ and-no _ (lt-leb 62198668874 from h)
+  pub window-before : from < firstRaised → coversWindow builtin from to ≡ false
+  window-before h = covered-window from to ∙ and-no _ (lt-leb firstRaised from h)
 
-  pub window-after : 63902822501 < to → coversWindow builtin from to ≡ false
-  window-after h = covered-window from to ∙ and-false (leb 62198668874 from) (leb to 63902822501) (lt-leb to 63902822501 h)
+  pub window-after : pastRaised < to → coversWindow builtin from to ≡ false
+  window-after h = covered-window from to ∙ and-false (leb firstRaised from) (leb to pastRaised) (lt-leb to pastRaised h)
 
 module _ (t : Table) (ok : good t ≡ true) (g : Tag) (d : ℕ) (in-table : covers t d ≡ true) where
   pub named-at : (x : ℕ) → x < dayLength t d → names t g (start t d + x) ≡ (dayFits (g .calendar) d && clockFits (g .clock) x)

@@ -17,7 +17,7 @@ ghost use Rattle.base.specs.Outcome.{done};
 ghost use Rattle.base.specs.Parts.{loweredBy};
 ghost use Rattle.calendar.specs.Gregorian.{ordinalOn, dateIn};
 ghost use Rattle.leap.specs.Table.{readingAt, dayOn};
-ghost use Rattle.leap.specs.Builtin.{builtin};
+ghost use Rattle.leap.specs.Builtin.{builtin, firstIndex, lastIndex, firstRaised, pastRaised};
 ghost use Rattle.leap.specs.Utc.{secondRaise};
 ghost use Rattle.window.specs.Window.{namedIn, firstOf, Lists};
 ghost use Rattle.seek.specs.Naming.{may, dayFits, names, listOf};
@@ -54,10 +54,10 @@ pub struct Tag {
 pub fn list(tag: Tag, from: u64, to: u64, out: &mut [i64]) -> Listing
     ensures { λ r. ⌜ Lists (listOf builtin tag from to) (now (out .entry)) (now (out .exit)) r ⌝ }
 {
-    if from < 62198668874 {
+    if from < leap::FIRST_RAISED {
         return Listing::Refused(Refusal::Uncovered);
     }
-    if 63902822501 < to {
+    if leap::PAST_RAISED < to {
         return Listing::Refused(Refusal::Uncovered);
     }
     if to <= from {
@@ -74,7 +74,7 @@ pub fn list(tag: Tag, from: u64, to: u64, out: &mut [i64]) -> Listing
 // Searches again and again, each time from one second past the last moment found. The window's last second has the
 // reading `last`.
 fn run(tag: Tag, from: u64, to: u64, last: Reading, out: &mut [i64]) -> Listing
-    requires { ⌜ (62198668874 ≤ from) × (to ≤ 63902822501) × (readingAt builtin (to - 1) ≡ done last) ⌝ }
+    requires { ⌜ (firstRaised ≤ from) × (to ≤ pastRaised) × (readingAt builtin (to - 1) ≡ done last) ⌝ }
     ensures { λ r. ⌜ Lists (done (record { ticks = tag .ticks; all = map (loweredBy secondRaise) (namedIn (names builtin tag) from to) })) (now (out .entry)) (now (out .exit)) r ⌝ }
 {
     let mut at = from;
@@ -95,7 +95,7 @@ fn run(tag: Tag, from: u64, to: u64, last: Reading, out: &mut [i64]) -> Listing
                 more: true,
             };
         }
-        let sec = base::lowered(x + 9223371975097870144);
+        let sec = base::lowered(x + leap::SECOND_BIAS);
         out[n] = sec;
         n += 1;
         at = x + 1;
@@ -105,7 +105,7 @@ fn run(tag: Tag, from: u64, to: u64, last: Reading, out: &mut [i64]) -> Listing
 // The first moment from `from` on and before `to`. A day's begin and length are asked only of a day that fits, and its
 // seconds are looked at up to its end or the window's.
 fn next(tag: Tag, from: u64, to: u64, last: Reading) -> Found
-    requires { ⌜ (62198668874 ≤ from) × (to ≤ 63902822501) × (readingAt builtin (to - 1) ≡ done last) ⌝ }
+    requires { ⌜ (firstRaised ≤ from) × (to ≤ pastRaised) × (readingAt builtin (to - 1) ≡ done last) ⌝ }
     ensures { λ r. ⌜ r ≡ firstOf (namedIn (names builtin tag) from to) ⌝ }
 {
     if to <= from {
@@ -137,7 +137,7 @@ fn next(tag: Tag, from: u64, to: u64, last: Reading) -> Found
 
 // The UTC reading of a covered second, which leap never refuses.
 fn reading_of(s: u64) -> Reading
-    requires { ⌜ (62198668874 ≤ s) × (s < 63902822501) ⌝ }
+    requires { ⌜ (firstRaised ≤ s) × (s < pastRaised) ⌝ }
     ensures { λ r. ⌜ readingAt builtin s ≡ done r ⌝ }
 {
     match leap::reading_at(s) {
@@ -152,7 +152,7 @@ fn reading_of(s: u64) -> Reading
 
 // When a covered day begins and how long it is, which leap never refuses.
 fn span_of(day: u64) -> Day
-    requires { ⌜ (719892 ≤ day) × (day ≤ 739615) ⌝ }
+    requires { ⌜ (firstIndex ≤ day) × (day ≤ lastIndex) ⌝ }
     ensures { λ r. ⌜ r ≡ dayOn builtin day ⌝ }
 {
     match leap::day_at(day) {

@@ -35,6 +35,6 @@ fn start(r: Record, ticks: u64) -> u64
     requires { ⌜ Within (2 ^ 41) (recorded r) ⌝ }
     ensures { λ s. ⌜ s ≡ startAt (2 ^ 41) ticks (recorded r) ⌝ }
 {
-    let sec = r.raised() - 9223369837831520256;
+    let sec = r.raised() - base::RECORD_BIAS;
     if ticks < r.ticks { sec + 1 } else { sec }
 }

@@ -18,6 +18,9 @@ ghost use Rattle.tags.specs.CucTag.{listPeriodic, listCuc};
 ghost use Rattle.tags.specs.AsciiTag.{covered, listWanted, listAscii};
 ghost use Rattle.tags.specs.Inner.{Short};
 
+// A second counted from a record's first, less the same second as the table raises it.
+const SECOND_SHIFT: u64 = leap::SECOND_BIAS - base::RECORD_BIAS;
+
 // Lists what a CUC tag names from `from` on and before `to`: its seconds into `out`, their one tick count in the answer.
 pub fn list_cuc(
     tag: &[u8],
@@ -45,7 +48,7 @@ fn list_periodic(first: Record, period: u64, from: Record, to: Record, out: &mut
         Ends::Refused(why) => Listing::Refused(why),
         Ends::At(start, end) => {
             // raised by 2^41
-            let base = first.raised() - 9223369837831520256;
+            let base = first.raised() - base::RECORD_BIAS;
             counter::list(base, period, start, end, ticks, out)
         }
     }
@@ -72,8 +75,7 @@ fn list_wanted(tag: Tag, from: Record, to: Record, out: &mut [i64]) -> Listing
             if !covered(from, to) {
                 return Listing::Refused(Refusal::Uncovered);
             }
-            // raised as leap raises them
-            seek::list(tag, start - 2137266349888, end - 2137266349888, out)
+            seek::list(tag, start - SECOND_SHIFT, end - SECOND_SHIFT, out)
         }
     }
 }
@@ -83,11 +85,11 @@ fn covered(from: Record, to: Record) -> bool
     ensures { λ r. ⌜ r ≡ covered builtin (recorded from) (recorded to) ⌝ }
 {
     let first = Record {
-        sec: 441763210,
+        sec: leap::FIRST_SECOND,
         ticks: 0,
     };
     let past = Record {
-        sec: 2145916837,
+        sec: leap::LAST_SECOND + 1,
         ticks: 0,
     };
     !scale::before(from, first) & !scale::before(past, to)

@@ -6,7 +6,7 @@ use borrow.Author.Needs.{needs}
 use Rattle.leap.specs.declared.Row.{Row}
 use Rattle.leap.specs.declared.Day.{Day}
 use Rattle.leap.specs.Table.{start, dayLength, dayOn}
-use Rattle.leap.specs.Builtin.{builtin}
+use Rattle.leap.specs.Builtin.{builtin, lastIndex}
 use Rattle.leap.specs.Inner.{endAt, OnDay}
 use Rattle.leap.proofs.Builtin.{later-rows, row-small, end-small}
 use Rattle.leap.proofs.Rows.{end-next}
@@ -18,7 +18,7 @@ offset-at-requires : tie.Need-offset-at-requires
 offset-at-requires c κs = search needs
 
 -- the day is a covered one, its offset is small, and what is told of it
-covered : (d i : ℕ) → OnDay builtin d i → d ≤ 739615
+covered : (d i : ℕ) → OnDay builtin d i → d ≤ lastIndex
 covered d i w = omega (arith, w .high, end-small i (w .row) .day-high)
 
 low : (c : tie.After-offset-at) → c .offset-at .result ≤ 101

@@ -11,12 +11,13 @@ use Rattle.base.proofs.Signed.{back}
 use Rattle.leap.proofs.Cover.{seconds-in, reading-in, reading-out}
 use Rattle.leap.proofs.reading_of.Statement.{statement}
 use Rattle.leap.proofs.reading_of.Tie as tie
+use Rattle.leap.specs.Builtin.{firstRaised, firstSecond, lastSecond, pastRaised}
 
 seated-requires : tie.Need-seated-requires
 seated-requires c κs = search needs
 
 -- the seat, at the second itself
-told : (c : tie.After-seated) → seatOf (pos 441763210) (pos 2145916836) (c .before .args .sec) ≡ c .seated .result
+told : (c : tie.After-seated) → seatOf (pos firstSecond) (pos lastSecond) (c .before .args .sec) ≡ c .seated .result
 told c = sym (rw (back w64 (c .before .args .sec) (c .before .fits .sec)) at (c .seated .ensures))
 
 enum-told : tie.Need-enum-told
@@ -25,7 +26,7 @@ enum-told c = search needs
 enum-known-n : tie.Need-enum-known-n
 enum-known-n c = search needs
 
-below : (c : tie.After-known-told) → c .before .n .given .0 .0 + 62198668874 < 63902822501
+below : (c : tie.After-known-told) → c .before .n .given .0 .0 + firstRaised < pastRaised
 below c = seconds-in (c .before .before .before .before .args .sec) _ (told (c .before .before .before) ∙ c .before .n .given .1) .1
 
 add-locate : tie.Need-add-locate

@@ -10,7 +10,8 @@ use borrow.Author.Tests.{leb-true, leb-false}
 use lib.Dec.{leb}
 use lib.ListN.{getD}
 use mir.Val.{boolByte}
-use Rattle.leap.specs.Builtin.{published, builtin}
+use Rattle.leap.specs.Builtin.{published, builtin, pastRaised}
+use Rattle.leap.specs.Utc.{secondRaise}
 use Rattle.leap.specs.Inner.{rowAt, endAt, begins}
 use Rattle.leap.proofs.Rows.{end-next, begins-rise}
 use Rattle.leap.proofs.Builtin.{builtin-good, later-rows, row-read}
@@ -35,13 +36,13 @@ last-begun s n i h w k =
     (λ u. absurd (omega (arith, u .1, begins-rise builtin builtin-good (n + 1) i (omega (arith, u .0)) (omega (arith, later-rows)))))
     (w .high)
 
-turn : (s n i : ℕ) (b : Bool) → leb (begin i) (s - 61756905664) ≡ b → 61756905664 ≤ s → i < 28 → Counted s n i → Counted s (n + boolByte b) (i + 1)
+turn : (s n i : ℕ) (b : Bool) → leb (begin i) (s - secondRaise) ≡ b → secondRaise ≤ s → i < 28 → Counted s n i → Counted s (n + boolByte b) (i + 1)
 turn s n i true q l h w =
-    let k : begins (rowAt builtin i) ≤ s = omega (arith, row-read i h, leb-true (begin i) (s - 61756905664) q) in
+    let k : begins (rowAt builtin i) ≤ s = omega (arith, row-read i h, leb-true (begin i) (s - secondRaise) q) in
     let e : n + 1 ≡ i = last-begun s n i h w k in
     record { row = omega arith; end = omega arith; low = rw e k; high = inl (omega arith) }
 turn s n i false q l h w =
-    let k : s < begins (rowAt builtin i) = omega (arith, row-read i h, leb-false (begin i) (s - 61756905664) q) in
+    let k : s < begins (rowAt builtin i) = omega (arith, row-read i h, leb-false (begin i) (s - secondRaise) q) in
     let e : n + boolByte false ≡ n = omega arith in
     rw e record {
       row = omega (arith, w .row);
@@ -51,7 +52,7 @@ turn s n i false q l h w =
     }
 
 -- all counted: the next row has not begun, and after the last the cover ends
-ended : (s n : ℕ) → s < 63902822501 → Counted s n 28 → s < begins (endAt builtin n)
+ended : (s n : ℕ) → s < pastRaised → Counted s n 28 → s < begins (endAt builtin n)
 unfolding builtin
 ended s n h w =
     ⊎-elim

@@ -8,7 +8,7 @@ use mir.Val.{toZ, ofZ}
 use Rattle.base.specs.Outcome.{done, given}
 use Rattle.base.specs.Parts.{loweredBy}
 use Rattle.base.proofs.Signed.{back, lower-at}
-use Rattle.leap.specs.Builtin.{builtin}
+use Rattle.leap.specs.Builtin.{builtin, lastIndex}
 use Rattle.leap.specs.Utc.{dayRaise, offsetRaise, utc, readingOf, utcOfSecond}
 use Rattle.leap.specs.Answers.{saysReading}
 use Rattle.leap.proofs.Cover.{reading-low}
@@ -31,7 +31,7 @@ told c = sym (rw (back w64 (c .before .args .sec) (c .before .fits .sec)) at (c 
 found : (c : tie.After-r) → readingOf builtin (c .before .before .before .args .sec) ≡ done (c .r .given .0 .0)
 found c = told (c .before .before) ∙ ap saysReading (c .r .given .1)
 
-low : (c : tie.After-r) → (c .r .given .0 .0 .day ≤ 739615) × (c .r .given .0 .0 .offset ≤ 101)
+low : (c : tie.After-r) → (c .r .given .0 .0 .day ≤ lastIndex) × (c .r .given .0 .0 .offset ≤ 101)
 low c = reading-low (c .before .before .before .args .sec) (c .r .given .0 .0) (found c)
 
 add-lowered : tie.Need-add-lowered

@@ -9,7 +9,7 @@ use mir.Syntax.{w64}
 use mir.Val.{toZ, ofZ}
 use Rattle.base.specs.Parts.{loweredBy}
 use Rattle.base.proofs.Signed.{lower-at}
-use Rattle.leap.specs.Builtin.{builtin}
+use Rattle.leap.specs.Builtin.{builtin, firstRaised}
 use Rattle.leap.specs.Utc.{secondRaise}
 use Rattle.window.specs.Window.{namedIn, firstOf}
 use Rattle.window.specs.declared.Found.the-variants.{At}
@@ -25,7 +25,7 @@ signed = loweredBy secondRaise
 
 abbrev Inv-loop : tie.InvT-loop
 Inv-loop tag from to last out₀ at₀ n₀ out at n =
-    Lister signed (names builtin tag) from to at n out₀ out × (62198668874 ≤ at)
+    Lister signed (names builtin tag) from to at n out₀ out × (firstRaised ≤ at)
 
 abbrev μ-loop : tie.MeasureT-loop
 μ-loop tag from to last out₀ at₀ n₀ out at n = to - at
