@@ -11,14 +11,15 @@ use Rattle.base.specs.Outcome.{Outcome, done}
 use Rattle.base.proofs.Bools.{and-true, and-yes}
 use Rattle.octets.specs.Places.{digitValue, decimalOf, digits}
 use Rattle.octets.proofs.Places.{digit-rule, number-append, number-places, places-good}
-use Rattle.calendar.specs.Gregorian.{ordinalOn, dateIn, indexOfDate, indexOfOrdinal}
+use Rattle.calendar.specs.Gregorian.{ordinalOn, dateIn, indexOfDate, indexOfOrdinal, fromEpoch}
 use Rattle.calendar.proofs.Promises.{ordinal-at-done, date-at-done, ordinal-at-back, date-at-back, ordinal-fields, date-fields}
 use Rattle.clock.specs.Clock.{clockOf, minuteOf}
 use Rattle.clock.proofs.Laws.{shown, shown-back}
+use Rattle.moment.specs.Moment.{moment}
 use Rattle.ascii.specs.declared.Layout.{Layout}
 use Rattle.ascii.specs.Quoted.{bytes}
 use Rattle.ascii.specs.Shapes.{alike, fits, shaped}
-use Rattle.ascii.specs.Ascii.{frontOf, layoutOf, numberAt, dayAt, clockAt, ticksOf, moment, fieldsOf, lead, dayText, clockText, fractionText, zoneText, codeText}
+use Rattle.ascii.specs.Ascii.{frontOf, layoutOf, numberAt, dayAt, clockAt, ticksOf, fieldsOf, lead, dayText, clockText, fractionText, zoneText, codeText}
 use Rattle.ascii.proofs.Shapes.{zeros, dateShape, fractionShape, digits-out, own-shaped}
 use Rattle.ascii.proofs.Texts.{digits-length, day-length}
 
@@ -125,7 +126,7 @@ part-back p z n zero f t h e = omega arith
 part-back p z n (suc d) f t h e = past-number p (clockText n ++ (lead 46 (suc d) f ++ z)) 10 (suc d) t e ∙ first-number (suc d) f z h
 
 -- ---- all fields
-pub fields-back : (l : Layout) (n x f : ℕ) → n ≤ 3652058 → x ≤ 86400 → f < 10 ^ (l .digits) → fieldsOf l (codeText l n x f) ≡ done (moment n x (ticksOf (l .digits) f))
+pub fields-back : (l : Layout) (n x f : ℕ) → n ≤ 3652058 → x ≤ 86400 → f < 10 ^ (l .digits) → fieldsOf l (codeText l n x f) ≡ done (moment (fromEpoch n) x (ticksOf (l .digits) f))
 unfolding fieldsOf codeText
 fields-back l n x f h k i =
     let p = dayText (l .ordinal) n in

@@ -65,6 +65,10 @@ clock-text s at n e =
     let f = clock-back h m x n e in
     text-of (minuteOf n / 60) (minuteOf n % 60) (n - minuteOf n * 60) h m x (f .hour) (f .minute) (f .second)
 
+pub clock-high : (s : List ℕ) (at n : ℕ) → clockAt s at ≡ done n → n ≤ 86400
+unfolding clockAt
+clock-high s at n e = clock-back (numberAt s at 2) (numberAt s (at + 3) 2) (numberAt s (at + 6) 2) n e .low
+
 -- ---- the date that the fields name
 ordinal-text : (o : Ordinal) (y d : ℕ) → o ≡ record { year = y; day = d } → digits 4 (o .year) ++ lead 45 3 (o .day) ≡ digits 4 y ++ lead 45 3 d
 ordinal-text o y d e = rw e

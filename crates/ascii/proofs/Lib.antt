@@ -5,7 +5,6 @@ pub mod Ladder
 pub mod Texts
 pub mod Back
 pub mod Forth
-pub mod Trips
 pub mod Promises
 pub mod Once
 pub mod Known

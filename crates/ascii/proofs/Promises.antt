@@ -1,94 +1,116 @@
--- What spans two calls, as theorems about the definitions that the contracts cite.
-use mathlib.Core.Path.{_≡_, sym, ap, _∙_}
+-- What spans two calls, as theorems about the definitions that the contracts cite. The records above lift them by a table.
+use mathlib.Core.Path.{_≡_, refl, sym, ap, _∙_}
 use mathlib.Core.Bool.{true, false}
 use mathlib.Core.List.{List}
-use Prim.Native.Nat.{ℕ, _+_, _^_, _≤_}
-use lib.Dec.{lit<, lit≤}
+use Prim.Native.Nat.{ℕ, _+_, _-_, _^_, _<_, _≤_}
+use native.Mathlib.Omega.{arith}
+use lib.IntN.{ℤ}
 use lib.ListN.{length}
 use Rattle.base.specs.Outcome.{done, refused}
-use Rattle.base.proofs.Ladders.{done-is, need-yes, need-no}
-use Rattle.scale.specs.Time.{Time, isRecord}
-use Rattle.scale.specs.Latest.{NotAfter, Latest}
-use Rattle.scale.proofs.Laws.{good-within}
-use Rattle.scale.proofs.Latest.{later-source, own-latest}
-use Rattle.leap.specs.Table.{offset, start}
-use Rattle.leap.specs.Builtin.{builtin}
-use Rattle.leap.specs.Utc.{readingOf}
-use Rattle.leap.specs.declared.Reading.{Reading}
-use Rattle.leap.proofs.Builtin.{builtin-good}
+use Rattle.base.proofs.Ladders.{done-is}
+use Rattle.scale.proofs.Fractions as F
+use Rattle.calendar.specs.Gregorian.{fromEpoch, indexOfDay}
+use Rattle.calendar.proofs.Numbers.{index-of-number, number-of-index}
+use Rattle.moment.specs.Moment.{moment, isMoment, Floor}
+use Rattle.moment.specs.declared.Moment.{Moment}
+use Rattle.moment.proofs.Laws.{moment-parts, parts-moment}
 use Rattle.ascii.specs.declared.Layout.{Layout}
-use Rattle.ascii.specs.Ascii.{isLayout, width, layoutOf, text, bytesBy, bytesOf, Reads}
-use Rattle.ascii.proofs.Texts.{bytes-by}
-use Rattle.ascii.proofs.Trips.{valid-read, width-written, read-then-written, written-then-read, latest-written, held}
-use borrow.Author.Tests.{leb-true}
-
--- the built-in table's days are the calendar's, and its seconds a record's
-days : builtin .last ≤ 3652058
-unfolding builtin
-days = lit≤ tt
-
-top : start builtin (builtin .last + 1) ≤ 2 ^ 41
-unfolding start offset builtin
-top = lit≤ tt
+use Rattle.ascii.specs.Ascii.{isLayout, frontOf, width, layoutOf, numberAt, ticksOf, text, codeText, partOf, bytesOf, Reads}
+use Rattle.ascii.proofs.Shapes.{shaped-right}
+use Rattle.ascii.proofs.Sizes.{front-in}
+use Rattle.ascii.proofs.Reading.{grain}
+use Rattle.ascii.proofs.Texts.{code-length, code-width}
+use Rattle.ascii.proofs.Back.{code-shaped, fields-back}
+use Rattle.ascii.proofs.Forth.{code-again, part-lt, day-high, clock-high}
+use Rattle.ascii.proofs.Ladder.{text-shaped, told, index-high, bytes-none, bytes-invalid, bytes-by, put}
+use borrow.Author.Tests.{le-leb}
 
 -- ---- reading
--- what was read is a valid record
-pub read-valid : (s : List ℕ) (m : Time) → text s ≡ done m → isRecord m ≡ true
-read-valid s m e = valid-read builtin builtin-good top s m e
+-- what was read is a moment
+pub read-valid : (s : List ℕ) (m : Moment) → text s ≡ done m → isMoment m ≡ true
+read-valid s m e =
+    let w = told s m e in
+    let l = layoutOf s in
+    let (p, r) = shaped-right s (w .right) in
+    let f = numberAt s (frontOf (l .ordinal) + 1) (l .digits) in
+    rw (w .is) at (parts-moment (moment (fromEpoch (w .day)) (w .second) (ticksOf (l .digits) f)) (clock-high s (frontOf (l .ordinal) - 8) (w .second) (w .clocked)) (F.ticks-lt (grain (l .digits) (p .few)) f (part-lt l s r)))
 
 -- what was read, written with the text's own form, digits and Z, gives the same bytes
-pub read-written : (s : List ℕ) (m : Time) → text s ≡ done m → bytesOf (layoutOf s) m ≡ done s
-read-written s m e = read-then-written builtin builtin-good top s m e
+pub read-written : (s : List ℕ) (m : Moment) → text s ≡ done m → bytesOf (layoutOf s) m ≡ done s
+read-written s m e =
+    let w = told s m e in
+    let l = layoutOf s in
+    let (p, r) = shaped-right s (w .right) in
+    let f = numberAt s (frontOf (l .ordinal) + 1) (l .digits) in
+    let i : indexOfDay (m .day) ≡ done (w .day) = ap (λ (x : Moment). indexOfDay (x .day)) (sym (w .is)) ∙ index-of-number (w .day) (day-high (l .ordinal) s (w .day) (w .dated)) in
+    bytes-by l m (le-leb (l .digits) 12 (p .few)) (read-valid s m e) (done (w .day)) i
+    ∙ ap (λ (x : Moment). done (codeText l (w .day) (x .second) (partOf (l .digits) (x .ticks)))) (sym (w .is))
+    ∙ ap (λ (n : ℕ). done (codeText l (w .day) (w .second) n)) (F.part-ticks (grain (l .digits) (p .few)) f)
+    ∙ ap done (code-again l s (w .day) (w .second) p r (w .dated) (w .clocked))
 
 -- so two texts of one layout that read alike are one
-pub one-text : (s s' : List ℕ) (m : Time) → text s ≡ done m → text s' ≡ done m → layoutOf s ≡ layoutOf s' → s ≡ s'
+pub one-text : (s s' : List ℕ) (m : Moment) → text s ≡ done m → text s' ≡ done m → layoutOf s ≡ layoutOf s' → s ≡ s'
 one-text s s' m e f h = done-is s s' (sym (read-written s m e) ∙ ap (λ (l : Layout). bytesOf l m) h ∙ read-written s' m f)
 
+-- every code that can be put together reads, as what it was put together from
+pub code-reads : (l : Layout) (n x f : ℕ) → n ≤ 3652058 → x ≤ 86400 → l .digits ≤ 12 → f < 10 ^ (l .digits) → (text (codeText l n x f) ≡ done (moment (fromEpoch n) x (ticksOf (l .digits) f))) × (layoutOf (codeText l n x f) ≡ l)
+code-reads l n x f h k few i =
+    let c = codeText l n x f in
+    let (a, b) = code-shaped l n x f few in
+    let o : 1 ≤ length c = omega (arith, code-length l n x f, front-in (l .ordinal)) in
+    (text-shaped c o a ∙ rw b (fields-back l n x f h k i), b)
+
 -- ---- writing
-pub write-width : (l : Layout) (r : Time) (code : List ℕ) → bytesOf l r ≡ done code → length code ≡ width l
-write-width l r code e = width-written builtin l r code e
+pub write-width : (l : Layout) (m : Moment) (code : List ℕ) → bytesOf l m ≡ done code → length code ≡ width l
+write-width l m code e =
+    let p = put l m code e in
+    ap length (sym (p .is)) ∙ code-width l (p .index) (m .second) (partOf (l .digits) (m .ticks)) (p .few)
 
--- "writing yields the latest time the target can hold that is not after the source", and a written code reads as that time, in the writer's layout
-pub written-reads : (l : Layout) (r : Time) (code : List ℕ) → bytesOf l r ≡ done code → (m : Time) × ((Latest (Reads l) r m) × (text code ≡ done m))
-written-reads l r code e =
-    (held builtin builtin-good l r, (latest-written builtin builtin-good l r days code e, written-then-read builtin builtin-good l r days code e .0))
+module _ (l : Layout) (m : Moment) where
+  -- the moment's fraction downward
+  abbrev pub held : Moment
+  held = moment (m .day) (m .second) (ticksOf (l .digits) (partOf (l .digits) (m .ticks)))
 
-pub written-layout : (l : Layout) (r : Time) (code : List ℕ) → bytesOf l r ≡ done code → layoutOf code ≡ l
-written-layout l r code e = written-then-read builtin builtin-good l r days code e .1
+  held-read : (code : List ℕ) → bytesOf l m ≡ done code → (text code ≡ done held) × (layoutOf code ≡ l)
+  held-read code e =
+      let p = put l m code e in
+      let (h, k) = moment-parts m (p .valid) in
+      let (a, b) = code-reads l (p .index) (m .second) (partOf (l .digits) (m .ticks)) (index-high (m .day) (p .index) (p .inside)) h (p .few) (F.part-lt (grain (l .digits) (p .few)) (m .ticks) k) in
+      rw (← p .is) (a ∙ ap (λ (z : ℤ). done (moment z (m .second) (ticksOf (l .digits) (partOf (l .digits) (m .ticks))))) (number-of-index (m .day) (p .index) (p .inside)), b)
 
--- ---- refused exactly: an invalid record 7, then digits over 12 3, then a second that the table does not cover 5; and nothing else
-pub invalid-refused : (l : Layout) (r : Time) → isRecord r ≡ false → bytesOf l r ≡ refused 7
-unfolding bytesBy
-invalid-refused l r e = need-no 7 _ e
+  -- "The writer takes the fraction downward and never wraps": of all moments of that second that codes of the layout hold, a written code reads as the latest that is not after the source
+  pub written-reads : (code : List ℕ) → bytesOf l m ≡ done code → (n : Moment) × ((Floor (Reads l) m n) × (text code ≡ done n))
+  written-reads code e =
+      let p = put l m code e in
+      let (a, b) = held-read code e in
+      let g = grain (l .digits) (p .few) in
+      let floor : Floor (Reads l) m held =
+      record {
+        had = record { code = code; read = a; own = b };
+        day = refl;
+        second = refl;
+        below = F.part-le g (m .ticks);
+        most = λ x q h.
+            let w = told (q .code) x (q .read) in
+            let f = numberAt (q .code) (frontOf (l .ordinal) + 1) (l .digits) in
+            let t : ticksOf (l .digits) f ≡ x .ticks = rw (q .own) at (ap (λ (y : Moment). y .ticks) (w .is)) in
+            rw (← t) (F.part-most g (m .ticks) f (rw (← t) at h));
+      } in
+      (held, (floor, a))
 
-pub digits-refused : (l : Layout) (r : Time) → isRecord r ≡ true → isLayout l ≡ false → bytesOf l r ≡ refused 3
-unfolding bytesBy
-digits-refused l r e f = need-yes 7 _ e ∙ need-no 3 _ f
+  -- in the writer's layout
+  pub written-layout : (code : List ℕ) → bytesOf l m ≡ done code → layoutOf code ≡ l
+  written-layout code e = held-read code e .1
 
-module _ (l : Layout) (r : Time) (e : isRecord r ≡ true) (f : isLayout l ≡ true) where
-  pub uncovered-refused : readingOf builtin (r .sec) ≡ refused 5 → bytesOf l r ≡ refused 5
-  uncovered-refused h = bytes-by builtin l r (λ c. done c) e (leb-true (l .digits) 12 f) (refused 5) h
+  -- ---- refused exactly: a layout that is none 3, then a moment that is none 7, then a day outside the calendar 7; and nothing else
+  pub digits-refused : isLayout l ≡ false → bytesOf l m ≡ refused 3
+  digits-refused e = bytes-none l m e
 
-  -- "ASCII hold[s] every covered moment"
-  pub covered-written : (u : Reading) → readingOf builtin (r .sec) ≡ done u → (code : List ℕ) × (bytesOf l r ≡ done code)
-  covered-written u h = (_, bytes-by builtin l r (λ c. done c) e (leb-true (l .digits) 12 f) (done u) h)
+  pub moment-refused : isLayout l ≡ true → isMoment m ≡ false → bytesOf l m ≡ refused 7
+  moment-refused e f = bytes-invalid l m e f
 
--- ---- order
-module _ (l : Layout) (r : Time) (code : List ℕ) (m : Time) (e : bytesOf l r ≡ done code) (f : text code ≡ done m) where
-  pub latest-is : Latest (Reads l) r m
-  latest-is =
-      let (n, (a, b)) = written-reads l r code e in
-      let h : n ≡ m = done-is n m (sym b ∙ f) in
-      rw h at a
+  pub outside-refused : isLayout l ≡ true → isMoment m ≡ true → indexOfDay (m .day) ≡ refused 7 → bytesOf l m ≡ refused 7
+  outside-refused e f h = bytes-by l m e f (refused 7) h
 
-  -- a later source never gets an earlier time
-  pub later-written : (r' : Time) (code' : List ℕ) (m' : Time) → bytesOf l r' ≡ done code' → text code' ≡ done m' → NotAfter r r' → NotAfter m m'
-  later-written r' code' m' e' f' h =
-      let (n, (a, b)) = written-reads l r' code' e' in
-      let k : n ≡ m' = done-is n m' (sym b ∙ f') in
-      later-source (Reads l) r m latest-is r' m' (rw k at a) h
-
-  -- a time that the layout can hold is written exactly
-  pub own-written : Reads l r → m ≡ r
-  own-written h =
-      own-latest (Reads l) r m latest-is (good-within (2 ^ 41) m (lit< tt) (read-valid code m f) .below) (good-within (2 ^ 41) r (lit< tt) (read-valid (h .code) r (h .read)) .below) h
+  pub written : isLayout l ≡ true → isMoment m ≡ true → (n : ℕ) → indexOfDay (m .day) ≡ done n → bytesOf l m ≡ done (codeText l n (m .second) (partOf (l .digits) (m .ticks)))
+  written e f n h = bytes-by l m e f (done n) h

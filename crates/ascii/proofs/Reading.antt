@@ -3,30 +3,32 @@ use mathlib.Core.Path.{_≡_, refl, sym, ap, _∙_}
 use mathlib.Core.Bool.{Bool, true, false, cond, _&&_}
 use mathlib.Core.List.{List}
 use Prim.Native.Nat.{ℕ, _+_, _-_, _*_, _/_, _^_, _<_, _≤_}
-use native.Mathlib.Nat.{mul-le-mul-right, mul-lt-mul-of-pos-right}
+use native.Mathlib.Nat.{one-le-pow, mul-le-mul-right}
 use native.Mathlib.Omega.{arith}
-use lib.Dec.{eqb, ltb}
+use lib.Dec.{ltb, lit<}
+use lib.IntN.{ℤ}
 use lib.ListN.{length, drop}
-use borrow.Author.Tests.{eqb-true, ltb-true, lt-ltb}
-use Rattle.base.specs.Outcome.{Outcome, done, refused, need, andThen}
-use Rattle.base.proofs.Bools.{and-true, and-false, cond-yes, cond-no}
-use Rattle.base.proofs.Ladders.{never, refused-is, need-no}
+use borrow.Author.Tests.{lt-ltb}
+use Rattle.base.specs.Outcome.{Outcome, done, refused, need, andThen, given}
+use Rattle.base.proofs.Bools.{and-false, cond-yes, cond-no}
+use Rattle.base.proofs.Ladders.{never, refused-is, need-no, given-done}
 use Rattle.scale.specs.Time.{perSecond}
+use Rattle.scale.proofs.Fractions.{Grain, grain-power, ticks-lt}
 use Rattle.octets.specs.Places.{digitValue, digitGood}
 use Rattle.octets.specs.Counts.{decimalAt}
 use Rattle.octets.specs.Powers.{powerIn}
 use Rattle.octets.specs.declared.Counted.the-variants.{Done, Bad, Out}
 use Rattle.octets.proofs.Places.{digit-rule, number-lt}
 use Rattle.octets.proofs.Counts.{told, told-short, read-lt}
-use Rattle.calendar.specs.Gregorian.{isDate, isOrdinal, indexOfDate, indexOfOrdinal, kind, dayIndex, dayOfYear}
+use Rattle.calendar.specs.Gregorian.{isDate, isOrdinal, indexOfDate, indexOfOrdinal, kind, dayIndex, dayOfYear, fromEpoch}
 use Rattle.calendar.proofs.Years.{kind-lt}
 use Rattle.calendar.proofs.Rows.{length-in}
 use Rattle.calendar.proofs.Dates.{GoodDate, GoodOrdinal, good-date, good-ordinal}
 use Rattle.clock.specs.Clock.{clockOk, secondOfDay, clockOf}
+use Rattle.moment.specs.Moment.{moment}
 use Rattle.ascii.specs.declared.Layout.{Layout}
-use Rattle.ascii.specs.Ascii.{frontOf, numberAt, dayAt, clockAt, ticksOf, moment, fieldsOf}
+use Rattle.ascii.specs.Ascii.{frontOf, numberAt, dayAt, clockAt, ticksOf, fieldsOf}
 use Rattle.ascii.specs.Inner.{figuresAt, readAs, dateFigures, clockFigures, figures}
-use Rattle.ascii.proofs.Shapes.{down-at}
 
 -- ---- a field
 pub power-is : (w k : ℕ) → w ≤ 12 → k ≡ powerIn 10 20 w → k ≡ 10 ^ w
@@ -120,14 +122,9 @@ clock-4 true s at n e =
 clock-4 false s at n e = sym (refused-is 4 n e)
 
 -- ---- fractions
--- a second is a whole number of parts of d digits, each a whole number of ticks
-pub grain : (d : ℕ) → d ≤ 12 → (0 < perSecond / 10 ^ d) × (10 ^ d * (perSecond / 10 ^ d) ≡ perSecond)
-grain d h =
-    let p = and-true (ltb 0 (perSecond / 10 ^ d)) (eqb (10 ^ d * (perSecond / 10 ^ d)) perSecond) (down-at 13 (λ i. ltb 0 (perSecond / 10 ^ i) && eqb (10 ^ i * (perSecond / 10 ^ i)) perSecond) refl d (omega arith)) in
-    (ltb-true _ _ (p .0), eqb-true _ _ (p .1))
-
-pub ticks-lt : (d f : ℕ) → d ≤ 12 → f < 10 ^ d → ticksOf d f < perSecond
-ticks-lt d f h l = rw (grain d h .1) at (mul-lt-mul-of-pos-right l (grain d h .0))
+-- a second in parts of d digits, each a whole number of ticks
+pub grain : (d : ℕ) → d ≤ 12 → Grain perSecond (10 ^ d)
+grain d h = grain-power {P = perSecond} {b = 10} 12 d (lit< tt) h (record { some = lit< tt; all = refl })
 
 abbrev pub ticksAs : List ℕ → ℕ → ℕ → ℕ
 ticksAs s at d = cond (figuresAt s at d) (ticksOf d (numberAt s at d)) perSecond
@@ -137,17 +134,17 @@ no-ticks s at d e = rw e
 
 ticks-by : (b : Bool) (x d : ℕ) → d ≤ 12 → cond b x (10 ^ d) * (perSecond / 10 ^ d) ≡ cond b (ticksOf d x) perSecond
 ticks-by true x d h = refl
-ticks-by false x d h = grain d h .1
+ticks-by false x d h = grain d h .all
 
 -- the power and the part are divisors
 pub power-low : (d p : ℕ) → d ≤ 12 → p ≡ powerIn 10 20 d → (0 < p) × (0 < perSecond / p)
-power-low d p h f = rw (power-is d p h f) (ltb-true _ _ (down-at 13 (λ i. ltb 0 (10 ^ i)) refl d (omega arith)), grain d h .0)
+power-low d p h f = rw (power-is d p h f) (one-le-pow d 10 (lit< tt), grain d h .some)
 
 pub ticks-read : (s : List ℕ) (at d n : ℕ) → d ≤ 12 → n ≡ readAs s at d → n * (perSecond / 10 ^ d) ≡ ticksAs s at d
 ticks-read s at d n h e = rw e (ticks-by (figuresAt s at d) (numberAt s at d) d h)
 
 pub ticks-fit : (d n : ℕ) → d ≤ 12 → n ≤ 10 ^ d → n * (perSecond / 10 ^ d) ≤ perSecond
-ticks-fit d n h l = rw (grain d h .1) at (mul-le-mul-right (perSecond / 10 ^ d) l)
+ticks-fit d n h l = rw (grain d h .all) at (mul-le-mul-right (perSecond / 10 ^ d) l)
 
 -- ---- all fields
 module _ {A : Type 0} (d c f : Bool) (day clock : Outcome ℕ) (g : ℕ → ℕ → A) where
@@ -179,6 +176,11 @@ module _ {A : Type 0} where
   all-read true false day clock g n x h e = never 4 x e
   all-read false c day clock g n x h e = never 4 n h
 
+-- what is refused of a value that something is made of
+given-refused : {A B : Type 0} (f : A → B) (x : Outcome A) (n : ℕ) → given f x ≡ refused n → x ≡ refused n
+given-refused f (done a) n e = never n (f a) (sym e)
+given-refused f (refused m) n e = ap refused (refused-is m n e)
+
 module _ (l : Layout) (s : List ℕ) where
   abbrev D : Bool
   D = dateFigures (l .ordinal) s
@@ -192,18 +194,28 @@ module _ (l : Layout) (s : List ℕ) where
   abbrev ticks : ℕ
   ticks = ticksOf (l .digits) (numberAt s (frontOf (l .ordinal) + 1) (l .digits))
 
-  pub bad-date : (n : ℕ) → need D 4 (dayAt (l .ordinal) s) ≡ refused n → need (figures l s) 4 (fieldsOf l s) ≡ refused 4
-  unfolding figures fieldsOf
-  bad-date n e = no-day D C F (dayAt (l .ordinal) s) (clockAt s (frontOf (l .ordinal) - 8)) (λ k x. moment k x ticks) n (day-4 (l .ordinal) s n) e
+  -- the day that is told, and the second of it
+  abbrev pub dayTold : Outcome ℤ
+  dayTold = given fromEpoch (need D 4 (dayAt (l .ordinal) s))
 
-  pub bad-clock : (k : ℕ) → need D 4 (dayAt (l .ordinal) s) ≡ done k → need C 4 (clockAt s (frontOf (l .ordinal) - 8)) ≡ refused 4 → need (figures l s) 4 (fieldsOf l s) ≡ refused 4
-  unfolding figures fieldsOf
-  bad-clock k d e = no-clock D C F (dayAt (l .ordinal) s) (clockAt s (frontOf (l .ordinal) - 8)) (λ k x. moment k x ticks) k d e
+  abbrev pub clockTold : Outcome ℕ
+  clockTold = need C 4 (clockAt s (frontOf (l .ordinal) - 8))
 
-  module _ (k x t : ℕ) (e : t ≡ ticksAs s (frontOf (l .ordinal) + 1) (l .digits)) where
+  pub bad-date : (n : ℕ) → dayTold ≡ refused n → need (figures l s) 4 (fieldsOf l s) ≡ refused 4
+  unfolding figures fieldsOf
+  bad-date n e =
+      no-day D C F (dayAt (l .ordinal) s) (clockAt s (frontOf (l .ordinal) - 8)) (λ k x. moment (fromEpoch k) x ticks) n (day-4 (l .ordinal) s n) (given-refused fromEpoch (need D 4 (dayAt (l .ordinal) s)) n e)
+
+  pub bad-clock : (z : ℤ) → dayTold ≡ done z → clockTold ≡ refused 4 → need (figures l s) 4 (fieldsOf l s) ≡ refused 4
+  unfolding figures fieldsOf
+  bad-clock z d e =
+      let (k, (f, g)) = given-done fromEpoch (need D 4 (dayAt (l .ordinal) s)) z d in
+      no-clock D C F (dayAt (l .ordinal) s) (clockAt s (frontOf (l .ordinal) - 8)) (λ k x. moment (fromEpoch k) x ticks) k f e
+
+  module _ (t : ℕ) (e : t ≡ ticksAs s (frontOf (l .ordinal) + 1) (l .digits)) where
     figures-fail : l .digits ≤ 12 → perSecond ≤ t → F ≡ false
     figures-fail few h =
-        fails F (λ f. omega (arith, e ∙ cond-yes _ _ f, ticks-lt (l .digits) (numberAt s (frontOf (l .ordinal) + 1) (l .digits)) few (number-lt digit-rule (drop (frontOf (l .ordinal) + 1) s) (l .digits) f)))
+        fails F (λ f. omega (arith, e ∙ cond-yes _ _ f, ticks-lt (grain (l .digits) few) (numberAt s (frontOf (l .ordinal) + 1) (l .digits)) (number-lt digit-rule (drop (frontOf (l .ordinal) + 1) s) (l .digits) f)))
 
     figures-hold : t < perSecond → F ≡ true
     figures-hold h = go F refl e
@@ -214,11 +226,13 @@ module _ (l : Layout) (s : List ℕ) where
 
     pub bad-fraction : l .digits ≤ 12 → perSecond ≤ t → need (figures l s) 4 (fieldsOf l s) ≡ refused 4
     unfolding figures fieldsOf
-    bad-fraction few h = rw (figures-fail few h) (no-fraction D C (dayAt (l .ordinal) s) (clockAt s (frontOf (l .ordinal) - 8)) (λ k x. moment k x ticks))
+    bad-fraction few h =
+        rw (figures-fail few h) (no-fraction D C (dayAt (l .ordinal) s) (clockAt s (frontOf (l .ordinal) - 8)) (λ k x. moment (fromEpoch k) x ticks))
 
-    pub good-fields : t < perSecond → need D 4 (dayAt (l .ordinal) s) ≡ done k → need C 4 (clockAt s (frontOf (l .ordinal) - 8)) ≡ done x → need (figures l s) 4 (fieldsOf l s) ≡ done (moment k x t)
+    pub good-fields : (z : ℤ) (x : ℕ) → t < perSecond → dayTold ≡ done z → clockTold ≡ done x → need (figures l s) 4 (fieldsOf l s) ≡ done (moment z x t)
     unfolding figures fieldsOf
-    good-fields h d c =
+    good-fields z x h d c =
         let f = figures-hold h in
         let g : t ≡ ticks = e ∙ cond-yes _ _ f in
-        rw (f, g) (all-read D C (dayAt (l .ordinal) s) (clockAt s (frontOf (l .ordinal) - 8)) (λ k x. moment k x ticks) k x d c)
+        let (k, (p, q)) = given-done fromEpoch (need D 4 (dayAt (l .ordinal) s)) z d in
+        rw (f, g, ← q) (all-read D C (dayAt (l .ordinal) s) (clockAt s (frontOf (l .ordinal) - 8)) (λ k x. moment (fromEpoch k) x ticks) k x p c)

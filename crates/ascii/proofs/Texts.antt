@@ -6,10 +6,7 @@ use Prim.Native.Nat.{ℕ, zero, suc, _+_, _-_, _*_, _/_, _%_, _^_, _<_, _≤_}
 use native.Mathlib.Omega.{arith}
 use lib.Dec.{lit<}
 use lib.ListN.{length, set, length-set, length-append}
-use borrow.Author.Tests.{ne-eqb, le-leb, lt-leb}
-use Rattle.base.specs.Outcome.{Outcome, done, refused, andThen}
-use Rattle.base.proofs.Ladders.{need-yes, need-no}
-use Rattle.scale.specs.Time.{Time, isRecord}
+use borrow.Author.Tests.{ne-eqb}
 use Rattle.octets.specs.Places.{digitOf, digits}
 use Rattle.octets.specs.Stores.{pasted, Stored}
 use Rattle.octets.proofs.Places.{length-places, places-append}
@@ -18,11 +15,8 @@ use Rattle.calendar.specs.Gregorian.{ordinalOn, dateIn}
 use Rattle.calendar.specs.declared.Ordinal.{Ordinal}
 use Rattle.calendar.specs.declared.Date.{Date}
 use Rattle.clock.specs.Clock.{minuteOf}
-use Rattle.leap.specs.Table.{Table}
-use Rattle.leap.specs.Utc.{readingOf}
-use Rattle.leap.specs.declared.Reading.{Reading}
 use Rattle.ascii.specs.declared.Layout.{Layout}
-use Rattle.ascii.specs.Ascii.{frontOf, partSize, bit, width, lead, dayText, clockText, fractionText, zoneText, codeText, partOf, bytesBy}
+use Rattle.ascii.specs.Ascii.{frontOf, partSize, bit, width, lead, dayText, clockText, fractionText, zoneText, codeText}
 use Rattle.ascii.proofs.Shapes.{zone-length}
 use Rattle.ascii.proofs.Sizes.{width-of}
 
@@ -129,28 +123,3 @@ put-parts l n x f old a b c e at t u few h i j p q r s =
     let three = then old (d ++ k) g at (t + 9) two r (omega (arith, length-append d k)) (omega arith) in
     let four = then old (d ++ k ++ g) z at u three s (omega (arith, length-append d k, length-append (d ++ k) g)) (omega arith) in
     simp append-assoc at four
-
--- ---- what writing answers, one law for each kind of return
-module _ (t : Table) (l : Layout) (r : Time) (k : List ℕ → Outcome (List ℕ)) where
-  pub bytes-invalid : isRecord r ≡ false → andThen (bytesBy t l r) k ≡ refused 7
-  unfolding bytesBy
-  bytes-invalid e = ap (λ (x : Outcome (List ℕ)). andThen x k) (need-no 7 _ e)
-
-  module _ (e : isRecord r ≡ true) where
-    pub bytes-digits : 12 < l .digits → andThen (bytesBy t l r) k ≡ refused 3
-    unfolding bytesBy
-    bytes-digits h = ap (λ (x : Outcome (List ℕ)). andThen x k) (need-yes 7 _ e ∙ need-no 3 _ (lt-leb (l .digits) 12 h))
-
-    module _ (h : l .digits ≤ 12) where
-      abbrev code : Reading → List ℕ
-      code u = codeText l (u .day) (u .second) (partOf (l .digits) (r .ticks))
-
-      pub bytes-by : (x : Outcome Reading) → readingOf t (r .sec) ≡ x → bytesBy t l r ≡ andThen x (λ u. done (code u))
-      unfolding bytesBy
-      bytes-by x f = need-yes 7 _ e ∙ need-yes 3 _ (le-leb (l .digits) 12 h) ∙ ap (λ (y : Outcome Reading). andThen y (λ u. done (code u))) f
-
-      pub bytes-uncovered : (n : ℕ) → readingOf t (r .sec) ≡ refused n → andThen (bytesBy t l r) k ≡ refused n
-      bytes-uncovered n f = ap (λ (x : Outcome (List ℕ)). andThen x k) (bytes-by (refused n) f)
-
-      pub bytes-done : (u : Reading) → readingOf t (r .sec) ≡ done u → andThen (bytesBy t l r) k ≡ k (code u)
-      bytes-done u f = ap (λ (x : Outcome (List ℕ)). andThen x k) (bytes-by (done u) f)

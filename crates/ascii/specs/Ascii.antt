@@ -1,22 +1,19 @@
--- ASCII time codes A and B (document 01, "The codes"): what reading answers, and what writing answers. The leap second table is a parameter.
+-- ASCII time codes A and B (document 01, "The codes"): which moment of UTC a text names, and which text names a moment. No table is asked.
 use mathlib.Core.Path.{_≡_}
 use mathlib.Core.Bool.{Bool, true, false, cond, not}
 use mathlib.Core.List.{List, [], _∷_, _++_}
 use Prim.Native.Nat.{ℕ, zero, suc, _+_, _-_, _*_, _/_, _%_, _^_}
 use lib.Dec.{leb, eqb}
-use lib.IntN.{ℤ}
 use lib.ListN.{length, getD, drop}
-use Rattle.base.specs.Outcome.{Outcome, done, need, andThen, given}
-use Rattle.scale.specs.Time.{perSecond, Time, isRecord}
+use Rattle.base.specs.Outcome.{Outcome, done, need, andThen}
+use Rattle.scale.specs.Time.{perSecond}
 use Rattle.octets.specs.Places.{decimalOf, digits}
-use Rattle.calendar.specs.Gregorian.{ordinalOn, dateIn, indexOfDate, indexOfOrdinal}
+use Rattle.calendar.specs.Gregorian.{ordinalOn, dateIn, indexOfDate, indexOfOrdinal, fromEpoch, indexOfDay}
 use Rattle.clock.specs.Clock.{clockOf, minuteOf}
-use Rattle.leap.specs.Table.{Table}
-use Rattle.leap.specs.Builtin.{builtin}
-use Rattle.leap.specs.Utc.{readingOf, secondOf}
+use Rattle.moment.specs.Moment.{moment, isMoment}
+use Rattle.moment.specs.declared.Moment.{Moment}
 use Rattle.ascii.specs.Shapes.{shaped}
 use Rattle.ascii.specs.declared.Layout.{Layout}
-use Rattle.ascii.specs.declared.Moment.{Moment}
 
 -- ---- layouts: "ASCII A or B, digits 0 to 12, Z or none"
 abbrev pub isLayout : Layout → Bool
@@ -63,29 +60,16 @@ clockAt s at = clockOf (numberAt s at 2) (numberAt s (at + 3) 2) (numberAt s (at
 abbrev pub ticksOf : ℕ → ℕ → ℕ
 ticksOf d f = f * (perSecond / 10 ^ d)
 
--- the day's index, the second of the day and the ticks that the fields name; a field out of its range is 4
-abbrev pub moment : ℕ → ℕ → ℕ → Moment
-moment day second ticks = record { day = day; second = second; ticks = ticks }
-
+-- the moment that the fields name; a field out of its range is 4
 unfoldable pub fieldsOf : Layout → List ℕ → Outcome Moment
 fieldsOf l s =
     andThen (dayAt (l .ordinal) s) (λ day.
     andThen (clockAt s (frontOf (l .ordinal) - 8)) (λ second.
-    done (moment day second (ticksOf (l .digits) (numberAt s (frontOf (l .ordinal) + 1) (l .digits))))))
+    done (moment (fromEpoch day) second (ticksOf (l .digits) (numberAt s (frontOf (l .ordinal) + 1) (l .digits))))))
 
--- the time of a moment of UTC: a day outside the table is 5, a second that the day does not have 6
-abbrev pub time : ℤ → ℕ → Time
-time z k = record { sec = z; ticks = k }
-
-unfoldable pub timeOf : Table → Moment → Outcome Time
-timeOf t m = given (λ z. time z (m .ticks)) (secondOf t (m .day) (m .second))
-
--- "ASCII is empty" 1; "a field .. character or length breaks its rule" 4, the shape before the ranges; 5; 6
-unfoldable pub textBy : Table → List ℕ → Outcome Time
-textBy t s = need (leb 1 (length s)) 1 (need (shaped s) 4 (andThen (fieldsOf (layoutOf s) s) (timeOf t)))
-
-abbrev pub text : List ℕ → Outcome Time
-text s = textBy builtin s
+-- "ASCII is empty" 1; "a field .. character or length breaks its rule" 4, the shape before the ranges. 5 and 6 are judged above, by a table
+unfoldable pub text : List ℕ → Outcome Moment
+text s = need (leb 1 (length s)) 1 (need (shaped s) 4 (fieldsOf (layoutOf s) s))
 
 -- ---- writing
 -- a character and w digits
@@ -118,21 +102,15 @@ codeText l day second f =
 abbrev pub partOf : ℕ → ℕ → ℕ
 partOf d k = k / (perSecond / 10 ^ d)
 
--- "record 7 .. 3 .. cover 5"
-unfoldable pub bytesBy : Table → Layout → Time → Outcome (List ℕ)
-bytesBy t l r =
-    need (isRecord r) 7
-    (need (isLayout l) 3
-    (andThen (readingOf t (r .sec)) (λ u. done (codeText l (u .day) (u .second) (partOf (l .digits) (r .ticks))))))
+-- "then .. 3 .. target 7": digits over 12 are 3; a writer given a moment that is none refuses 7; no call shows it. A day outside the calendar is 7 too
+unfoldable pub bytesOf : Layout → Moment → Outcome (List ℕ)
+bytesOf l m =
+    need (isLayout l) 3
+    (need (isMoment m) 7
+    (andThen (indexOfDay (m .day)) (λ n. done (codeText l n (m .second) (partOf (l .digits) (m .ticks))))))
 
-abbrev pub bytesOf : Layout → Time → Outcome (List ℕ)
-bytesOf l r = bytesBy builtin l r
-
--- ---- the times that codes of a layout can hold: those that a text of that layout reads as
-pub record ReadsBy (t : Table) (l : Layout) (x : Time) : Type 0 where
+-- ---- the moments that codes of a layout can hold: those that a text of that layout reads as
+pub record Reads (l : Layout) (m : Moment) : Type 0 where
   pub code : List ℕ
-  pub read : textBy t code ≡ done x
+  pub read : text code ≡ done m
   pub own : layoutOf code ≡ l
-
-abbrev pub Reads : Layout → Time → Type 0
-Reads l x = ReadsBy builtin l x

@@ -5,13 +5,9 @@ use mathlib.Core.List.{List}
 use Prim.Native.Nat.{ℕ, _+_, _-_, _^_, _≤_}
 use lib.Dec.{eqb}
 use lib.ListN.{getD, drop}
-use Rattle.base.specs.Outcome.{Outcome, done, refused}
 use Rattle.octets.specs.Places.{allGood, digitGood}
 use Rattle.ascii.specs.Ascii.{frontOf, partSize, bit, numberAt}
 use Rattle.ascii.specs.declared.Layout.{Layout}
-use Rattle.ascii.specs.declared.Moment.{Moment}
-use Rattle.ascii.specs.declared.Found.{Found}
-use Rattle.ascii.specs.declared.Found.the-variants as F
 
 -- w digits stand from a place on
 abbrev pub figuresAt : List ℕ → ℕ → ℕ → Bool
@@ -48,7 +44,3 @@ separators l s =
 pub record Placed (l : Layout) (n : ℕ) : Type 0 where
   pub few : l .digits ≤ 12
   pub size : n ≡ frontOf (l .ordinal) + partSize (l .digits) + bit (l .zone)
-
-abbrev pub saysFound : Found → Outcome Moment
-saysFound (F.Done m) = done m
-saysFound F.Bad = refused 4

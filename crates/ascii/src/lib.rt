@@ -1,29 +1,30 @@
-// ASCII time codes A and B, read and written.
+// ASCII time codes A and B, read and written: bytes to a moment of UTC, and back. No table is asked.
 use base::Refusal;
 use calendar::DateAnswer;
+use calendar::DayAnswer;
 use calendar::IndexAnswer;
 use calendar::OrdinalAnswer;
 use clock::ClockAnswer;
-use leap::ReadingAnswer;
-use leap::SecondAnswer;
+use moment::Moment;
+use moment::MomentAnswer;
 use octets::Counted;
 use octets::Written;
 use scale::Record;
-use scale::RecordAnswer;
 ghost use mathlib.Core.Path.{_≡_};
 ghost use mathlib.Core.Bool.{true, false, cond};
 ghost use Prim.Native.Nat.{_+_, _-_, _*_, _/_, _^_, _≤_, _<_};
 ghost use lib.ListN.{length};
-ghost use Rattle.base.specs.Outcome.{need, andThen};
+ghost use Rattle.base.specs.Outcome.{need, andThen, given};
 ghost use Rattle.scale.specs.Time.{perSecond};
-ghost use Rattle.scale.specs.Answers.{recorded, saysRecord};
 ghost use Rattle.octets.specs.Places.{digits};
 ghost use Rattle.octets.specs.Stores.{pasted};
 ghost use Rattle.octets.specs.Writes.{roomed, Wrote};
-ghost use Rattle.calendar.specs.Answers.{saysIndex};
+ghost use Rattle.calendar.specs.Gregorian.{fromEpoch};
+ghost use Rattle.calendar.specs.Answers.{saysDay};
 ghost use Rattle.clock.specs.Answers.{saysClock};
-ghost use Rattle.leap.specs.Builtin.{builtin};
+ghost use Rattle.moment.specs.Moment.{saysMoment};
 ghost use Rattle.ascii.specs.Ascii.{
+  isLayout,
   frontOf,
   partSize,
   bit,
@@ -34,7 +35,6 @@ ghost use Rattle.ascii.specs.Ascii.{
   clockAt,
   ticksOf,
   fieldsOf,
-  timeOf,
   text,
   lead,
   dayText,
@@ -53,7 +53,6 @@ ghost use Rattle.ascii.specs.Inner.{
   figures,
   separators,
   Placed,
-  saysFound,
 };
 
 // How a code is laid out: form B, with the day of the year, or form A, with month and day; so many digits of
@@ -64,22 +63,21 @@ pub struct Layout {
     pub zone: bool,
 }
 
-// The index of a day, a second of it (86,400 is 23:59:60), and ticks.
-pub struct Moment {
-    pub day: u64,
-    pub second: u64,
-    pub ticks: u64,
+// Whether a layout is one.
+pub fn is_layout(l: Layout) -> bool
+    ensures { λ r. ⌜ r ≡ isLayout l ⌝ }
+{
+    l.digits <= 12
 }
 
-// The length of a code, or 0 where the digits are over 12.
+// The length of a code, or 0 where the layout is none.
 pub fn size(l: Layout) -> usize
     ensures { λ r. ⌜ r ≡ width l ⌝ }
 {
-    let d = l.digits;
-    if 12 < d {
+    if !is_layout(l) {
         return 0;
     }
-    front(l.ordinal) + part_size(d) + bit_of(l.zone)
+    front(l.ordinal) + part_size(l.digits) + bit_of(l.zone)
 }
 
 // The length of a code without fraction and Z.
@@ -104,27 +102,24 @@ fn bit_of(b: bool) -> usize
 }
 
 // Reads a code, which is the whole slice.
-pub fn read(s: &[u8]) -> RecordAnswer
-    ensures { λ r. ⌜ saysRecord r ≡ text (now (s .entry)) ⌝ }
+pub fn read(s: &[u8]) -> MomentAnswer
+    ensures { λ r. ⌜ saysMoment r ≡ text (now (s .entry)) ⌝ }
 {
     let len = s.len();
     if len < 1 {
-        return RecordAnswer::Refused(Refusal::Short);
+        return MomentAnswer::Refused(Refusal::Short);
     }
     if len < 17 {
-        return RecordAnswer::Refused(Refusal::Field);
+        return MomentAnswer::Refused(Refusal::Field);
     }
     let l = layout_of(s);
     if size(l) != len {
-        return RecordAnswer::Refused(Refusal::Field);
+        return MomentAnswer::Refused(Refusal::Field);
     }
     if !separated(s, l) {
-        return RecordAnswer::Refused(Refusal::Field);
+        return MomentAnswer::Refused(Refusal::Field);
     }
-    match fields(s, l) {
-        Found::Bad => RecordAnswer::Refused(Refusal::Field),
-        Found::Done(m) => record_of(m),
-    }
+    fields(s, l)
 }
 
 // The layout that a text has if its shape is right.
@@ -134,8 +129,8 @@ fn layout_of(s: &[u8]) -> Layout
 {
     let len = s.len();
     let last = len - 1;
-    let ordinal = s[7] != 45;
-    let zone = s[last] == 90;
+    let ordinal = s[7] != b'-';
+    let zone = s[last] == b'Z';
     let end = len - bit_of(zone);
     let digits = past(end, front(ordinal) + 1);
     Layout {
@@ -163,42 +158,36 @@ fn separated(s: &[u8], l: Layout) -> bool
     let t = end - 9;
     let m = end - 6;
     let n = end - 3;
-    let marks = (s[4] == 45) & ((s[t] == 84) & ((s[m] == 58) & (s[n] == 58)));
+    let marks = (s[4] == b'-') & ((s[t] == b'T') & ((s[m] == b':') & (s[n] == b':')));
     if digits == 0 {
         return marks;
     }
-    marks & (s[end] == 46)
-}
-
-// What the fields name, or that one breaks its rule.
-enum Found {
-    Done(Moment),
-    Bad,
+    marks & (s[end] == b'.')
 }
 
 // Reads the date, the clock and the fraction.
-fn fields(s: &[u8], l: Layout) -> Found
+fn fields(s: &[u8], l: Layout) -> MomentAnswer
     requires { ⌜ Placed l (length (now s)) ⌝ }
-    ensures { λ r. ⌜ saysFound r ≡ need (figures l (now (s .entry))) 4 (fieldsOf l (now (s .entry))) ⌝ }
+    ensures { λ r. ⌜ saysMoment r ≡ need (figures l (now (s .entry))) 4 (fieldsOf l (now (s .entry))) ⌝ }
 {
     let end = front(l.ordinal);
     let date = day_at(s, l.ordinal);
     match date {
-        IndexAnswer::Refused(_) => Found::Bad,
-        IndexAnswer::Done(day) => {
+        DayAnswer::Refused(_) => MomentAnswer::Refused(Refusal::Field),
+        DayAnswer::Done(day) => {
             let clock = clock_at(s, end - 8);
             match clock {
-                ClockAnswer::Refused(_) => Found::Bad,
+                ClockAnswer::Refused(_) => MomentAnswer::Refused(Refusal::Field),
                 ClockAnswer::Done(second) => {
                     let ticks = fraction(s, end + 1, l.digits);
                     if ticks < Record::TICKS {
-                        return Found::Done(Moment {
+                        return MomentAnswer::Done(Moment {
                             day: day,
                             second: second,
                             ticks: ticks,
                         });
                     }
-                    Found::Bad
+                    MomentAnswer::Refused(Refusal::Field)
                 }
             }
         }
@@ -218,19 +207,19 @@ fn number(s: &[u8], at: usize, w: usize) -> u64
     }
 }
 
-// The index of the day that a date names.
-fn day_at(s: &[u8], ordinal: bool) -> IndexAnswer
+// The day that a date names.
+fn day_at(s: &[u8], ordinal: bool) -> DayAnswer
     requires { ⌜ 17 ≤ length (now s) ⌝ }
-    ensures { λ r. ⌜ saysIndex r ≡ need (dateFigures ordinal (now (s .entry))) 4 (dayAt ordinal (now (s .entry))) ⌝ }
+    ensures { λ r. ⌜ saysDay r ≡ given fromEpoch (need (dateFigures ordinal (now (s .entry))) 4 (dayAt ordinal (now (s .entry)))) ⌝ }
 {
     let year = number(s, 0, 4);
     if ordinal {
         let day = number(s, 5, 3);
-        return calendar::index_of_ordinal(year, day);
+        return calendar::day_of_ordinal(year, day);
     }
     let month = number(s, 5, 2);
     let day = number(s, 8, 2);
-    calendar::index_of_date(year, month, day)
+    calendar::day_of_date(year, month, day)
 }
 
 // The second of the day that hh:mm:ss from `at` on shows.
@@ -268,40 +257,26 @@ fn unit(d: usize) -> u64
     Record::TICKS / power
 }
 
-// The record of a moment of UTC.
-fn record_of(m: Moment) -> RecordAnswer
-    ensures { λ r. ⌜ saysRecord r ≡ timeOf builtin m ⌝ }
-{
-    let ticks = m.ticks;
-    let answer = leap::second_of(m.day, m.second);
-    match answer {
-        SecondAnswer::Refused(why) => RecordAnswer::Refused(why),
-        SecondAnswer::Done(sec) => RecordAnswer::Done(Record {
-            sec: sec,
-            ticks: ticks,
-        }),
-    }
-}
-
 // Writes a code from `at` on: the bytes before and after it stay, and a refusal leaves all.
-pub fn write(r: Record, l: Layout, out: &mut [u8], at: usize) -> Written
-    ensures { λ a. ⌜ Wrote (andThen (bytesOf l (recorded r)) (roomed (now (out .entry)) at)) at (now (out .entry)) (now (out .exit)) a ⌝ }
+pub fn write(m: Moment, l: Layout, out: &mut [u8], at: usize) -> Written
+    ensures { λ a. ⌜ Wrote (andThen (bytesOf l m) (roomed (now (out .entry)) at)) at (now (out .entry)) (now (out .exit)) a ⌝ }
 {
-    let sec = r.sec;
-    let ticks = r.ticks;
+    let day = m.day;
+    let second = m.second;
+    let ticks = m.ticks;
     let digits = l.digits;
-    if !r.valid() {
-        return Written::Refused(Refusal::Range);
-    }
-    if 12 < digits {
+    if !is_layout(l) {
         return Written::Refused(Refusal::Unsupported);
     }
-    let answer = leap::reading_of(sec);
+    if !m.valid() {
+        return Written::Refused(Refusal::Range);
+    }
+    let answer = calendar::index_of_day(day);
     match answer {
-        ReadingAnswer::Refused(why) => Written::Refused(why),
-        ReadingAnswer::Done(u) => {
+        IndexAnswer::Refused(why) => Written::Refused(why),
+        IndexAnswer::Done(index) => {
             let part = part_of(digits, ticks);
-            store(out, at, l, u.day, u.second, part)
+            store(out, at, l, index, second, part)
         }
     }
 }
@@ -370,7 +345,7 @@ fn put_ordinal(out: &mut [u8], at: usize, day: u64)
         OrdinalAnswer::Refused(_) => {}
         OrdinalAnswer::Done(o) => {
             put_year(out, at, o.year);
-            put_lead(out, at + 4, 45, 3, o.day);
+            put_lead(out, at + 4, b'-', 3, o.day);
         }
     }
 }
@@ -385,8 +360,8 @@ fn put_date(out: &mut [u8], at: usize, day: u64)
         DateAnswer::Refused(_) => {}
         DateAnswer::Done(d) => {
             put_year(out, at, d.year);
-            put_pair(out, at + 4, 45, d.month);
-            put_pair(out, at + 7, 45, d.day);
+            put_pair(out, at + 4, b'-', d.month);
+            put_pair(out, at + 7, b'-', d.day);
         }
     }
 }
@@ -398,9 +373,9 @@ fn put_clock(out: &mut [u8], at: usize, second: u64)
 {
     let m = clock::minute_of(second);
     let sec = second - m * 60;
-    put_pair(out, at, 84, m / 60);
-    put_pair(out, at + 3, 58, m % 60);
-    put_pair(out, at + 6, 58, sec);
+    put_pair(out, at, b'T', m / 60);
+    put_pair(out, at + 3, b':', m % 60);
+    put_pair(out, at + 6, b':', sec);
 }
 
 // Puts a fraction of d digits with its period, and says where it ends.
@@ -413,10 +388,10 @@ fn put_fraction(out: &mut [u8], at: usize, d: usize, part: u64) -> usize
     }
     if d == 3 {
         // the same by a width that the compiler knows
-        put_lead(out, at, 46, 3, part);
+        put_lead(out, at, b'.', 3, part);
         return at + 4;
     }
-    put_lead(out, at, 46, d, part);
+    put_lead(out, at, b'.', d, part);
     at + (d + 1)
 }
 
@@ -426,7 +401,7 @@ fn put_zone(out: &mut [u8], at: usize, zone: bool)
     ensures { λ _. ⌜ now (out .exit) ≡ pasted (now (out .entry)) at (zoneText zone) ⌝ }
 {
     if zone {
-        out[at] = 90;
+        out[at] = b'Z';
     }
 }
 
@@ -455,8 +430,8 @@ fn put_two_digits(out: &mut [u8], at: usize, n: u64)
     ensures { λ _. ⌜ now (out .exit) ≡ pasted (now (out .entry)) at (digits 2 n) ⌝ }
 {
     let two = n as u8;
-    out[at] = 48 + two / 10;
-    out[at + 1] = 48 + two % 10;
+    out[at] = b'0' + two / 10;
+    out[at + 1] = b'0' + two % 10;
 }
 
 // Puts a character and the last w digits of n.

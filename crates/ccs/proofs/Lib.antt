@@ -1,7 +1,6 @@
 pub mod Pairs
 pub mod Parts
 pub mod Wholes
-pub mod Times
 pub mod Rungs
 pub mod Turns
 pub mod Promises

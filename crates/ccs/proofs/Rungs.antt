@@ -4,45 +4,44 @@ use mathlib.Core.Bool.{Bool, true, false}
 use mathlib.Core.List.{List, _++_}
 use Prim.Native.Nat.{ℕ, _+_, _<_, _≤_}
 use native.Mathlib.Omega.{arith}
+use lib.IntN.{ℤ}
 use lib.ListN.{length, length-append}
 use borrow.Author.Tests.{le-leb, lt-leb}
 use Rattle.base.specs.Outcome.{Outcome, done, refused, andThen, given}
 use Rattle.base.proofs.Bools.{cond-yes}
 use Rattle.base.proofs.Ladders.{need-yes, need-no}
-use Rattle.scale.specs.Time.{Time, isRecord}
 use Rattle.octets.specs.Places.{bcd, bcdElement}
 use Rattle.octets.specs.Stores.{pasted, Stored}
 use Rattle.octets.specs.Writes.{Wrote}
 use Rattle.octets.specs.declared.Written.{Written}
 use Rattle.octets.proofs.Places.{length-places}
 use Rattle.octets.proofs.Pastes.{stored, then, length-pasted}
-use Rattle.calendar.specs.Gregorian.{ordinalAt, dateAt}
+use Rattle.calendar.specs.Gregorian.{ordinalOfDay, dateOfDay}
 use Rattle.calendar.specs.declared.Date.{Date}
 use Rattle.calendar.specs.declared.Ordinal.{Ordinal}
-use Rattle.leap.specs.Utc.{readingOf}
-use Rattle.leap.specs.declared.Reading.{Reading}
-use Rattle.leap.specs.Table.{Table}
+use Rattle.moment.specs.Moment.{moment, isMoment}
+use Rattle.moment.specs.declared.Moment.{Moment}
 use Rattle.ccs.specs.declared.Layout.{Layout}
-use Rattle.ccs.specs.Ccs.{width, pairs, dayAt, clockAt, timeOf, fieldBy, ordinalText, monthText, dateText, clockText, partOf, bytesBy}
+use Rattle.ccs.specs.Ccs.{isLayout, width, pairs, dayAt, clockAt, ticksOf, field, ordinalText, monthText, dateText, clockText, partOf, bytesOf}
 
 pub width-is : (l : Layout) → l .segments ≤ 6 → width l ≡ 7 + l .segments
 unfolding width
 width-is l h = cond-yes _ _ (le-leb (l .segments) 6 h)
 
 -- ---- reading
-module _ (t : Table) (s : List ℕ) (at : ℕ) (l : Layout) where
-  pub over : 6 < l .segments → fieldBy t s at l ≡ refused 3
-  unfolding fieldBy
+module _ (s : List ℕ) (at : ℕ) (l : Layout) where
+  pub over : 6 < l .segments → field s at l ≡ refused 3
+  unfolding field
   over h = need-no 3 _ (lt-leb (l .segments) 6 h)
 
   module _ (h : l .segments ≤ 6) where
-    pub short : length s < at + (7 + l .segments) → fieldBy t s at l ≡ refused 1
-    unfolding fieldBy
+    pub short : length s < at + (7 + l .segments) → field s at l ≡ refused 1
+    unfolding field
     short k = need-yes 3 _ (le-leb (l .segments) 6 h) ∙ need-no 1 _ (lt-leb (at + width l) (length s) (rw (width-is l h) k))
 
     -- the rest goes by the day; its clock and fraction are counted from the clock's place
-    pub on : at + (7 + l .segments) ≤ length s → {x : Outcome ℕ} → dayAt (l .ordinal) s at ≡ x → fieldBy t s at l ≡ andThen x (λ d. andThen (clockAt s (at + 4)) (λ y. andThen (pairs s (at + 4 + 3) (l .segments)) (λ f. timeOf t (l .segments) d y f)))
-    unfolding fieldBy
+    pub on : at + (7 + l .segments) ≤ length s → {x : Outcome ℤ} → dayAt (l .ordinal) s at ≡ x → field s at l ≡ andThen x (λ d. andThen (clockAt s (at + 4)) (λ y. andThen (pairs s (at + 4 + 3) (l .segments)) (λ f. done (moment d y (ticksOf (l .segments) f)))))
+    unfolding field
     on k {x} e =
         let p : at + 7 ≡ at + 4 + 3 = omega arith in
         need-yes 3 _ (le-leb (l .segments) 6 h)
@@ -50,13 +49,13 @@ module _ (t : Table) (s : List ℕ) (at : ℕ) (l : Layout) where
         ∙ rw (e, p)
 
 -- ---- writing
-pub by-ordinal : (o : Bool) (n : ℕ) {x : Outcome Ordinal} → o ≡ true → ordinalAt n ≡ x → dateText o n ≡ given ordinalText x
+pub by-ordinal : (o : Bool) (d : ℤ) {x : Outcome Ordinal} → o ≡ true → ordinalOfDay d ≡ x → dateText o d ≡ given ordinalText x
 unfolding dateText
-by-ordinal o n b e = ap (λ (a : Bool). dateText a n) b ∙ ap (given ordinalText) e
+by-ordinal o d b e = ap (λ (a : Bool). dateText a d) b ∙ ap (given ordinalText) e
 
-pub by-month : (o : Bool) (n : ℕ) {x : Outcome Date} → o ≡ false → dateAt n ≡ x → dateText o n ≡ given monthText x
+pub by-month : (o : Bool) (d : ℤ) {x : Outcome Date} → o ≡ false → dateOfDay d ≡ x → dateText o d ≡ given monthText x
 unfolding dateText
-by-month o n b e = ap (λ (a : Bool). dateText a n) b ∙ ap (given monthText) e
+by-month o d b e = ap (λ (a : Bool). dateText a d) b ∙ ap (given monthText) e
 
 -- a T-field of eight, six and twice w digits
 abbrev pub codeText : ℕ → ℕ → ℕ → ℕ → List ℕ
@@ -80,21 +79,7 @@ stored-three a b c d at to on {e} {f} {g} x y z h k l =
     let g1 : g ≡ pasted f on c = stored (omega arith) z .1 in
     then d a (b ++ c) at to e1 (then e b c to on f1 g1 k (omega arith)) h (omega arith)
 
-module _ (t : Table) (l : Layout) (r : Time) where
-  pub not-record : isRecord r ≡ false → bytesBy t l r ≡ refused 7
-  unfolding bytesBy
-  not-record e = need-no 7 _ e
-
-  module _ (g : isRecord r ≡ true) where
-    pub not-layout : 6 < l .segments → bytesBy t l r ≡ refused 3
-    unfolding bytesBy
-    not-layout h = need-yes 7 _ g ∙ need-no 3 _ (lt-leb (l .segments) 6 h)
-
-    module _ (h : l .segments ≤ 6) where
-      pub not-covered : (n : ℕ) → readingOf t (r .sec) ≡ refused n → bytesBy t l r ≡ refused n
-      unfolding bytesBy
-      not-covered n e = need-yes 7 _ g ∙ need-yes 3 _ (le-leb (l .segments) 6 h) ∙ rw e
-
-      pub covered : (u : Reading) → readingOf t (r .sec) ≡ done u → {x : Outcome (List ℕ)} → dateText (l .ordinal) (u .day) ≡ x → bytesBy t l r ≡ andThen x (λ d. done (d ++ (clockText (u .second) ++ bcd (l .segments) (partOf (l .segments) (r .ticks)))))
-      unfolding bytesBy
-      covered u e f = need-yes 7 _ g ∙ need-yes 3 _ (le-leb (l .segments) 6 h) ∙ rw (e, f)
+-- a moment's text goes by its day's
+pub dated : (l : Layout) (m : Moment) → isLayout l ≡ true → isMoment m ≡ true → {x : Outcome (List ℕ)} → dateText (l .ordinal) (m .day) ≡ x → bytesOf l m ≡ andThen x (λ d. done (d ++ (clockText (m .second) ++ bcd (l .segments) (partOf (l .segments) (m .ticks)))))
+unfolding bytesOf
+dated l m h g e = need-yes 3 _ h ∙ need-yes 7 _ g ∙ rw e

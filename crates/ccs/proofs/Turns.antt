@@ -4,18 +4,19 @@ use mathlib.Core.Bool.{Bool, true, false}
 use mathlib.Core.List.{List, _++_, append-assoc}
 use Prim.Native.Nat.{ℕ, _+_, _-_, _*_, _/_, _%_, _^_, _<_, _≤_}
 use native.Mathlib.Omega.{arith}
+use lib.IntN.{ℤ}
 use lib.ListN.{length, take, drop, length-append, length-drop}
 use lib.Seq.{take-add, drop-drop, drop-at}
 use Rattle.base.specs.Outcome.{Outcome, done, given}
-use Rattle.base.proofs.Ladders.{given-done}
+use Rattle.base.proofs.Ladders.{then-done, given-done}
 use Rattle.octets.specs.Places.{bcd, bcdElement}
 use Rattle.octets.specs.Writes.{saysCounted}
 use Rattle.octets.proofs.Places.{length-places, bcd-rule}
 use Rattle.octets.proofs.Counts.{read-back}
-use Rattle.calendar.specs.Gregorian.{indexOfDate, indexOfOrdinal, ordinalAt, dateAt, ymd}
+use Rattle.calendar.specs.Gregorian.{indexOfDay, ordinalAt, dateAt, dayOfDate, dayOfOrdinal, dateOfDay, ordinalOfDay, ymd}
 use Rattle.calendar.specs.declared.Date.{Date}
 use Rattle.calendar.specs.declared.Ordinal.{Ordinal}
-use Rattle.calendar.proofs.Promises.{ordinal-fields, date-fields, ordinal-at-back, date-at-back, index-of-ordinal-back, index-of-date-back}
+use Rattle.calendar.proofs.Promises.{ordinal-fields, date-fields, ordinal-of-day-back, date-of-day-back, day-of-ordinal-back, day-of-date-back}
 use Rattle.clock.specs.Clock.{clockOf, minuteOf}
 use Rattle.clock.proofs.Laws.{Shown, shown, shown-back, clock-back}
 use Rattle.ccs.specs.Ccs.{pairs, ordinalText, monthText, dateText, clockText}
@@ -25,50 +26,57 @@ use Rattle.ccs.proofs.Rungs.{codeText}
 
 -- ---- the date
 -- what is written of a day is eight digits, and these name the day
-pub record Dated (o : Bool) (k : ℕ) (d : List ℕ) : Type 0 where
+pub record Dated (o : Bool) (k : ℤ) (d : List ℕ) : Type 0 where
   pub date : ℕ
   pub text : d ≡ bcd 4 date
   pub small : date < 100000000
   pub names : dayIn o date ≡ done k
 
-two : (f : ℕ → ℕ → Outcome ℕ) {a b c d : ℕ} → a ≡ b → c ≡ d → f a c ≡ f b d
+two : (f : ℕ → ℕ → Outcome ℤ) {a b c d : ℕ} → a ≡ b → c ≡ d → f a c ≡ f b d
 two f p q = λ i. f (p i) (q i)
 
 three : {B : Type 0} (f : ℕ → ℕ → ℕ → B) {a b c d x y : ℕ} → a ≡ b → c ≡ d → x ≡ y → f a c x ≡ f b d y
 three f p q r = λ i. f (p i) (q i) (r i)
 
-pub date-written : (o : Bool) (k : ℕ) (d : List ℕ) → dateText o k ≡ done d → Dated o k d
+-- the fields of a day that is given are in their ranges
+pub ordinal-day : (k : ℤ) (o : Ordinal) → ordinalOfDay k ≡ done o → (1 ≤ o .year) × (o .year ≤ 9999) × (1 ≤ o .day) × (o .day ≤ 366)
+ordinal-day k o e = let (n, (p, q)) = then-done (indexOfDay k) ordinalAt o e in ordinal-fields n o q
+
+pub date-day : (k : ℤ) (t : Date) → dateOfDay k ≡ done t → (1 ≤ t .year) × (t .year ≤ 9999) × (1 ≤ t .month) × (t .month ≤ 12) × (1 ≤ t .day) × (t .day ≤ 31)
+date-day k t e = let (n, (p, q)) = then-done (indexOfDay k) dateAt t e in date-fields n t q
+
+pub date-written : (o : Bool) (k : ℤ) (d : List ℕ) → dateText o k ≡ done d → Dated o k d
 unfolding dateText dayIn
 date-written true k d e =
-    let (r, (p, q)) = given-done ordinalText (ordinalAt k) d e in
-    let f = ordinal-fields k r p in
+    let (r, (p, q)) = given-done ordinalText (ordinalOfDay k) d e in
+    let f = ordinal-day k r p in
     record {
       date = r .year * 10000 + r .day;
       text = sym q ∙ sym (ordinal-run r (omega arith));
       small = omega arith;
-      names = two indexOfOrdinal (omega arith) (omega arith) ∙ ordinal-at-back k r p;
+      names = two dayOfOrdinal (omega arith) (omega arith) ∙ ordinal-of-day-back k r p;
     }
 date-written false k d e =
-    let (r, (p, q)) = given-done monthText (dateAt k) d e in
-    let f = date-fields k r p in
+    let (r, (p, q)) = given-done monthText (dateOfDay k) d e in
+    let f = date-day k r p in
     record {
       date = r .year * 10000 + r .month * 100 + r .day;
       text = sym q ∙ sym (month-run r (omega arith) (omega arith));
       small = omega arith;
-      names = three indexOfDate (omega arith) (omega arith) (omega arith) ∙ date-at-back k r p;
+      names = three dayOfDate (omega arith) (omega arith) (omega arith) ∙ date-of-day-back k r p;
     }
 
 -- and eight digits that name a day are what is written of it
-pub date-read : (o : Bool) (k n : ℕ) → dayIn o n ≡ done k → dateText o k ≡ done (bcd 4 n)
+pub date-read : (o : Bool) (k : ℤ) (n : ℕ) → dayIn o n ≡ done k → dateText o k ≡ done (bcd 4 n)
 unfolding dateText dayIn
 date-read true k n e =
     let r : Ordinal = record { year = n / 10000; day = n % 10000 } in
     let z : n / 10000 * 10000 + n % 10000 ≡ n = omega arith in
-    ap (given ordinalText) (index-of-ordinal-back r k e .1) ∙ ap done (sym (ordinal-run r (omega arith)) ∙ ap (bcd 4) z)
+    ap (given ordinalText) (day-of-ordinal-back r k e) ∙ ap done (sym (ordinal-run r (omega arith)) ∙ ap (bcd 4) z)
 date-read false k n e =
     let r : Date = ymd (n / 10000) (n / 100 % 100) (n % 100) in
     let z : n / 10000 * 10000 + n / 100 % 100 * 100 + n % 100 ≡ n = omega arith in
-    ap (given monthText) (index-of-date-back r k e .1) ∙ ap done (sym (month-run r (omega arith) (omega arith)) ∙ ap (bcd 4) z)
+    ap (given monthText) (day-of-date-back r k e) ∙ ap done (sym (month-run r (omega arith) (omega arith)) ∙ ap (bcd 4) z)
 
 -- ---- the clock
 pub clock-written : (n : ℕ) → n ≤ 86400 → (digitsOf n < 1000000) × (clockIn (digitsOf n) ≡ done n)

@@ -4,10 +4,11 @@ use mathlib.Core.Bool.{Bool, true, false}
 use mathlib.Core.List.{List, _++_}
 use Prim.Native.Nat.{ℕ, _+_, _-_, _*_, _/_, _%_, _<_, _≤_}
 use native.Mathlib.Omega.{arith}
+use lib.IntN.{ℤ}
 use lib.ListN.{length}
 use Rattle.base.specs.Outcome.{Outcome, done, andThen}
 use Rattle.octets.specs.Places.{bcd}
-use Rattle.calendar.specs.Gregorian.{indexOfDate, indexOfOrdinal}
+use Rattle.calendar.specs.Gregorian.{dayOfDate, dayOfOrdinal}
 use Rattle.calendar.specs.declared.Date.{Date}
 use Rattle.calendar.specs.declared.Ordinal.{Ordinal}
 use Rattle.clock.specs.Clock.{clockOf, minuteOf}
@@ -17,9 +18,9 @@ use Rattle.ccs.proofs.Pairs.{split, pairs-append}
 
 -- ---- reading
 -- the day that eight digits name
-unfoldable pub dayIn : Bool → ℕ → Outcome ℕ
-dayIn true n = indexOfOrdinal (n / 10000) (n % 10000)
-dayIn false n = indexOfDate (n / 10000) (n / 100 % 100) (n % 100)
+unfoldable pub dayIn : Bool → ℕ → Outcome ℤ
+dayIn true n = dayOfOrdinal (n / 10000) (n % 10000)
+dayIn false n = dayOfDate (n / 10000) (n / 100 % 100) (n % 100)
 
 -- the second of the day that six digits name
 unfoldable pub clockIn : ℕ → Outcome ℕ
@@ -45,8 +46,8 @@ three s at w K h l =
 module _ (s : List ℕ) (at : ℕ) where
   pub day-whole : (o : Bool) → at + 4 ≤ length s → dayAt o s at ≡ andThen (pairs s at 4) (dayIn o)
   unfolding dayAt dayIn
-  day-whole true l = split s at (at + 2) 2 2 indexOfOrdinal refl (omega arith) l
-  day-whole false l = let e : at + 3 ≡ at + 2 + 1 = omega arith in rw e (three s at 2 indexOfDate (omega arith) l)
+  day-whole true l = split s at (at + 2) 2 2 dayOfOrdinal refl (omega arith) l
+  day-whole false l = let e : at + 3 ≡ at + 2 + 1 = omega arith in rw e (three s at 2 dayOfDate (omega arith) l)
 
   pub clock-whole : at + 3 ≤ length s → clockAt s at ≡ andThen (pairs s at 3) clockIn
   unfolding clockAt clockIn
@@ -59,11 +60,11 @@ module _ (s : List ℕ) (at : ℕ) where
     pub day-run : {x : Outcome ℕ} → pairs s at 4 ≡ x → dayAt o s at ≡ andThen x (dayIn o)
     day-run e = day-whole o l ∙ ap (λ (y : Outcome ℕ). andThen y (dayIn o)) e
 
-    pub day-ordinal : (n : ℕ) → o ≡ true → pairs s at 4 ≡ done n → dayAt o s at ≡ indexOfOrdinal (n / 10000) (n % 10000)
+    pub day-ordinal : (n : ℕ) → o ≡ true → pairs s at 4 ≡ done n → dayAt o s at ≡ dayOfOrdinal (n / 10000) (n % 10000)
     unfolding dayIn
     day-ordinal n b e = day-run e ∙ ap (λ (a : Bool). dayIn a n) b
 
-    pub day-month : (n : ℕ) → o ≡ false → pairs s at 4 ≡ done n → dayAt o s at ≡ indexOfDate (n / 10000) (n / 100 % 100) (n % 100)
+    pub day-month : (n : ℕ) → o ≡ false → pairs s at 4 ≡ done n → dayAt o s at ≡ dayOfDate (n / 10000) (n / 100 % 100) (n % 100)
     unfolding dayIn
     day-month n b e = day-run e ∙ ap (λ (a : Bool). dayIn a n) b
 

@@ -1,28 +1,28 @@
-// CCS, the calendar segmented time code: its T-field, read and written. A crate above reads the P octet.
+// CCS, the calendar segmented time code: its T-field, read to a moment of UTC and written from one. Crates above read the
+// P octet and apply the table of leap seconds.
 use base::Refusal;
 use calendar::DateAnswer;
+use calendar::DayAnswer;
 use calendar::IndexAnswer;
 use calendar::OrdinalAnswer;
 use clock::ClockAnswer;
-use leap::ReadingAnswer;
-use leap::SecondAnswer;
+use moment::Moment;
+use moment::MomentAnswer;
 use octets::Counted;
 use octets::Written;
 use scale::Record;
-use scale::RecordAnswer;
 ghost use mathlib.Core.Path.{_≡_};
 ghost use mathlib.Core.List.{_++_};
-ghost use Prim.Native.Nat.{_+_, _/_, _^_, _≤_, _<_};
+ghost use Prim.Native.Nat.{_+_, _/_, _^_, _≤_};
 ghost use lib.ListN.{length};
-ghost use Rattle.base.specs.Outcome.{andThen, given};
+ghost use Rattle.base.specs.Outcome.{done, andThen, given};
 ghost use Rattle.scale.specs.Time.{perSecond};
-ghost use Rattle.scale.specs.Answers.{recorded, saysRecord};
-ghost use Rattle.calendar.specs.Answers.{saysIndex};
+ghost use Rattle.calendar.specs.Answers.{saysIndex, saysDay};
 ghost use Rattle.clock.specs.Answers.{saysClock};
 ghost use Rattle.octets.specs.Places.{bcd};
 ghost use Rattle.octets.specs.Writes.{roomed, Wrote};
-ghost use Rattle.leap.specs.Builtin.{builtin};
-ghost use Rattle.ccs.specs.Ccs.{width, pairs, dayAt, clockAt, timeOf, field, dateText, clockText, bytesOf};
+ghost use Rattle.moment.specs.Moment.{moment, saysMoment};
+ghost use Rattle.ccs.specs.Ccs.{width, pairs, dayAt, clockAt, ticksOf, field, dateText, clockText, bytesOf};
 
 // How a T-field is laid out: by the day of the year or by month and day, and its extra segments, 0 to 6.
 pub struct Layout {
@@ -39,63 +39,53 @@ pub fn size(l: Layout) -> usize
 }
 
 // Reads the T-field that starts at `at`.
-pub fn read(s: &[u8], at: usize, l: Layout) -> RecordAnswer
-    ensures { λ r. ⌜ saysRecord r ≡ field (now (s .entry)) at l ⌝ }
+pub fn read(s: &[u8], at: usize, l: Layout) -> MomentAnswer
+    ensures { λ r. ⌜ saysMoment r ≡ field (now (s .entry)) at l ⌝ }
 {
     let segments = l.segments;
     if 6 < segments {
-        return RecordAnswer::Refused(Refusal::Unsupported);
+        return MomentAnswer::Refused(Refusal::Unsupported);
     }
     let len = s.len();
     if len < at {
-        return RecordAnswer::Refused(Refusal::Short);
+        return MomentAnswer::Refused(Refusal::Short);
     }
     if len - at < 7 + segments {
-        return RecordAnswer::Refused(Refusal::Short);
+        return MomentAnswer::Refused(Refusal::Short);
     }
     let answer = day_at(s, at, l.ordinal);
     match answer {
-        IndexAnswer::Refused(why) => RecordAnswer::Refused(why),
-        IndexAnswer::Done(day) => in_day(s, at + 4, segments, day),
+        DayAnswer::Refused(why) => MomentAnswer::Refused(why),
+        DayAnswer::Done(day) => in_day(s, at + 4, segments, day),
     }
 }
 
 // The moment of a day: the clock at `at`, and the fraction behind it.
-fn in_day(s: &[u8], at: usize, segments: usize, day: u64) -> RecordAnswer
+fn in_day(s: &[u8], at: usize, segments: usize, day: i64) -> MomentAnswer
     requires { ⌜ (at + (3 + segments) ≤ length (now s)) × (segments ≤ 6) ⌝ }
-    ensures { λ r. ⌜ saysRecord r ≡ andThen (clockAt (now (s .entry)) at) (λ x. andThen (pairs (now (s .entry)) (at + 3) segments) (λ f. timeOf builtin segments day x f)) ⌝ }
+    ensures { λ r. ⌜ saysMoment r ≡ andThen (clockAt (now (s .entry)) at) (λ x. andThen (pairs (now (s .entry)) (at + 3) segments) (λ f. done (moment day x (ticksOf segments f)))) ⌝ }
 {
     let answer = clock_at(s, at);
     match answer {
-        ClockAnswer::Refused(why) => RecordAnswer::Refused(why),
+        ClockAnswer::Refused(why) => MomentAnswer::Refused(why),
         ClockAnswer::Done(second) => in_second(s, at + 3, segments, day, second),
     }
 }
 
 // The moment of a second of a day: the fraction at `at`.
-fn in_second(s: &[u8], at: usize, segments: usize, day: u64, second: u64) -> RecordAnswer
+fn in_second(s: &[u8], at: usize, segments: usize, day: i64, second: u64) -> MomentAnswer
     requires { ⌜ segments ≤ 6 ⌝ }
-    ensures { λ r. ⌜ saysRecord r ≡ andThen (pairs (now (s .entry)) at segments) (λ f. timeOf builtin segments day second f) ⌝ }
+    ensures { λ r. ⌜ saysMoment r ≡ andThen (pairs (now (s .entry)) at segments) (λ f. done (moment day second (ticksOf segments f))) ⌝ }
 {
     let number = octets::bcd(s, at, segments);
     match number {
-        Counted::Bad => RecordAnswer::Refused(Refusal::Field),
-        Counted::Out => RecordAnswer::Refused(Refusal::Short),
-        Counted::Done(part) => moment(segments, day, second, part),
-    }
-}
-
-fn moment(segments: usize, day: u64, second: u64, part: u64) -> RecordAnswer
-    requires { ⌜ (segments ≤ 6) × (part < 100 ^ segments) ⌝ }
-    ensures { λ r. ⌜ saysRecord r ≡ timeOf builtin segments day second part ⌝ }
-{
-    let answer = leap::second_of(day, second);
-    match answer {
-        SecondAnswer::Refused(why) => RecordAnswer::Refused(why),
-        SecondAnswer::Done(sec) => {
+        Counted::Bad => MomentAnswer::Refused(Refusal::Field),
+        Counted::Out => MomentAnswer::Refused(Refusal::Short),
+        Counted::Done(part) => {
             let ticks = part * unit(segments);
-            RecordAnswer::Done(Record {
-                sec: sec,
+            MomentAnswer::Done(Moment {
+                day: day,
+                second: second,
                 ticks: ticks,
             })
         }
@@ -110,21 +100,21 @@ fn unit(segments: usize) -> u64
     Record::TICKS / octets::power10(segments * 2)
 }
 
-// The index of the day that the four octets at `at` name.
-fn day_at(s: &[u8], at: usize, ordinal: bool) -> IndexAnswer
+// The day that the four octets at `at` name.
+fn day_at(s: &[u8], at: usize, ordinal: bool) -> DayAnswer
     requires { ⌜ at + 4 ≤ length (now s) ⌝ }
-    ensures { λ r. ⌜ saysIndex r ≡ dayAt ordinal (now (s .entry)) at ⌝ }
+    ensures { λ r. ⌜ saysDay r ≡ dayAt ordinal (now (s .entry)) at ⌝ }
 {
     let number = octets::bcd(s, at, 4);
     match number {
-        Counted::Bad => IndexAnswer::Refused(Refusal::Field),
-        Counted::Out => IndexAnswer::Refused(Refusal::Short),
+        Counted::Bad => DayAnswer::Refused(Refusal::Field),
+        Counted::Out => DayAnswer::Refused(Refusal::Short),
         Counted::Done(n) => {
             let year = n / 10000;
             if ordinal {
-                return calendar::index_of_ordinal(year, n % 10000);
+                return calendar::day_of_ordinal(year, n % 10000);
             }
-            calendar::index_of_date(year, n / 100 % 100, n % 100)
+            calendar::day_of_date(year, n / 100 % 100, n % 100)
         }
     }
 }
@@ -142,46 +132,41 @@ fn clock_at(s: &[u8], at: usize) -> ClockAnswer
     }
 }
 
-// Writes a record as a T-field from `at` on, or a refusal leaves all.
-pub fn write(r: Record, l: Layout, out: &mut [u8], at: usize) -> Written
-    ensures { λ a. ⌜ Wrote (andThen (bytesOf l (recorded r)) (roomed (now (out .entry)) at)) at (now (out .entry)) (now (out .exit)) a ⌝ }
+// Writes a moment as a T-field from `at` on, or a refusal leaves all.
+pub fn write(m: Moment, l: Layout, out: &mut [u8], at: usize) -> Written
+    ensures { λ a. ⌜ Wrote (andThen (bytesOf l m) (roomed (now (out .entry)) at)) at (now (out .entry)) (now (out .exit)) a ⌝ }
 {
-    if !r.valid() {
-        return Written::Refused(Refusal::Range);
-    }
     let segments = l.segments;
     if 6 < segments {
         return Written::Refused(Refusal::Unsupported);
     }
-    let ticks = r.ticks;
-    let answer = leap::reading_of(r.sec);
-    match answer {
-        ReadingAnswer::Refused(why) => Written::Refused(why),
-        ReadingAnswer::Done(u) => {
-            let date = date_digits(l.ordinal, u.day);
-            match date {
-                IndexAnswer::Refused(why) => Written::Refused(why),
-                IndexAnswer::Done(n) => {
-                    let clock = clock_digits(u.second);
-                    store(out, at, segments, n, clock, ticks / unit(segments))
-                }
-            }
+    if !m.valid() {
+        return Written::Refused(Refusal::Range);
+    }
+    let second = m.second;
+    let ticks = m.ticks;
+    let date = date_digits(l.ordinal, m.day);
+    match date {
+        IndexAnswer::Refused(why) => Written::Refused(why),
+        IndexAnswer::Done(n) => {
+            let clock = clock_digits(second);
+            store(out, at, segments, n, clock, ticks / unit(segments))
         }
     }
 }
 
 // The eight digits of a day's year and date.
-fn date_digits(ordinal: bool, day: u64) -> IndexAnswer
+fn date_digits(ordinal: bool, day: i64) -> IndexAnswer
     ensures { λ r. ⌜ given (bcd 4) (saysIndex r) ≡ dateText ordinal day ⌝ }
 {
     if ordinal {
-        let answer = calendar::ordinal_at(day);
+        let answer = calendar::ordinal_of_day(day);
         match answer {
             OrdinalAnswer::Refused(why) => IndexAnswer::Refused(why),
             OrdinalAnswer::Done(o) => IndexAnswer::Done(o.year * 10000 + o.day),
         }
     } else {
-        let answer = calendar::date_at(day);
+        let answer = calendar::date_of_day(day);
         match answer {
             DateAnswer::Refused(why) => IndexAnswer::Refused(why),
             DateAnswer::Done(t) => IndexAnswer::Done(t.year * 10000 + t.month * 100 + t.day),

@@ -1,49 +1,38 @@
--- The laws of a layout and of the ticks of a T-field's parts.
+-- The laws of a layout, of a millisecond's parts and of reading a T-field.
 use mathlib.Core.Path.{_≡_, refl, _∙_}
-use mathlib.Core.Bool.{Bool, true, false, cond, _&&_, _||_, false≢true}
-use Prim.Native.Nat.{ℕ, _+_, _*_, _-_, _/_, _^_, _<_, _≤_}
-use native.Mathlib.Nat.{mul-lt-mul-of-pos-right, pow-le-pow-right}
+use mathlib.Core.Bool.{Bool, true, false, cond, _||_, false≢true}
+use Prim.Native.Nat.{ℕ, _+_, _-_, _/_, _^_, _<_, _≤_}
+use native.Mathlib.Nat.{pow-le-pow-right}
 use native.Mathlib.Omega.{arith}
 use mathlib.Core.List.{List}
 use borrow.Author.Tests.{eqb-true, le-leb, lt-leb, lt-ltb, le-ltb}
 use lib.Dec.{leb, eqb, lit<, lit≤}
 use lib.IntN.{ℤ, pos, negℤ, _+ℤ_}
 use lib.ListN.{length}
-use Rattle.base.specs.Parts.{within, at}
-use Rattle.base.specs.Outcome.{refused, given}
+use Rattle.base.specs.Parts.{at}
+use Rattle.base.specs.Outcome.{done, refused}
 use Rattle.base.proofs.Bools.{and-left, and-right, and-true, cond-yes, cond-no}
 use Rattle.base.proofs.Ladders.{need-yes, need-no, needs-yes}
 use Rattle.base.proofs.Signed.{same, sum, within-low, within-high, neg-plus, neg-minus, apart}
+use Rattle.scale.proofs.Fractions.{Grain}
 use Rattle.octets.specs.Places.{octetValue, octetGood}
 use Rattle.octets.specs.Counts.{countAt}
 use Rattle.octets.specs.declared.Counted.the-variants.{Done}
 use Rattle.octets.proofs.Places.{octet-rule}
 use Rattle.octets.proofs.Counts.{Read, told, read-lt}
-use Rattle.leap.specs.Table.{Table}
-use Rattle.leap.specs.Utc.{secondOfUtc}
-use Rattle.cds.specs.Cds.{isEpochDay, isWidth, isLayout, width, parts, perMillisecond, unit, fraction, timed, fieldBy}
+use Rattle.moment.specs.Moment.{moment}
+use Rattle.cds.specs.Cds.{isEpochDay, isWidth, isLayout, width, parts, perMillisecond, fraction, timed, field}
 use Rattle.cds.specs.Inner.{Good}
 use Rattle.cds.specs.declared.Layout.{Layout}
 
 -- ---- a millisecond is a whole number of parts, each a whole number of ticks
-pub grain : (w : ℕ) → parts w * unit w ≡ perMillisecond
+pub grain : (w : ℕ) → Grain perMillisecond (parts w)
 grain w = go (eqb w 0) (eqb w 2)
   where
-    go : (a b : Bool) → cond a 1 (cond b 1000 1000000000) * (perMillisecond / cond a 1 (cond b 1000 1000000000)) ≡ perMillisecond
-    go true b = refl
-    go false true = refl
-    go false false = refl
-
-pub unit-pos : (w : ℕ) → 0 < unit w
-unit-pos w = go (eqb w 0) (eqb w 2)
-  where
-    go : (a b : Bool) → 0 < perMillisecond / cond a 1 (cond b 1000 1000000000)
-    go true b = lit< tt
-    go false true = lit< tt
-    go false false = lit< tt
-
-pub part-lt : (w p : ℕ) → p < parts w → p * unit w < perMillisecond
-part-lt w p h = rw (grain w) at (mul-lt-mul-of-pos-right h (unit-pos w))
+    go : (a b : Bool) → Grain perMillisecond (cond a 1 (cond b 1000 1000000000))
+    go true b = record { some = lit< tt; all = refl }
+    go false true = record { some = lit< tt; all = refl }
+    go false false = record { some = lit< tt; all = refl }
 
 pub many-pos : (w : ℕ) → 0 < parts w
 many-pos w = go (eqb w 0) (eqb w 2)
@@ -125,33 +114,33 @@ pub day-lt : (w n : ℕ) → w ≤ 3 → n < 256 ^ w → n < 2 ^ 24
 day-lt w n h k = let z : 256 ^ w ≤ 256 ^ 3 = pow-le-pow-right (lit< tt) h in omega (arith, k, z)
 
 -- ---- the rungs of a T-field's reading
-module _ (t : Table) (l : Layout) (d m p : ℕ) where
-  pub timed-over : 86400999 < m → timed t l d m p ≡ refused 4
+module _ (l : Layout) (d m p : ℕ) where
+  pub timed-over : 86400999 < m → timed l d m p ≡ refused 4
   unfolding timed
   timed-over h = need-no 4 _ (lt-leb m 86400999 h)
 
-  pub timed-part : m ≤ 86400999 → parts (l .part) ≤ p → timed t l d m p ≡ refused 4
+  pub timed-part : m ≤ 86400999 → parts (l .part) ≤ p → timed l d m p ≡ refused 4
   unfolding timed
   timed-part h k = need-yes 4 _ (le-leb m 86400999 h) ∙ need-no 4 _ (le-ltb p (parts (l .part)) k)
 
-  pub timed-is : m ≤ 86400999 → p < parts (l .part) → timed t l d m p ≡ given (λ z. record { sec = z; ticks = fraction (l .part) m p }) (secondOfUtc t (l .epoch +ℤ pos d) (m / 1000))
+  pub timed-is : m ≤ 86400999 → p < parts (l .part) → timed l d m p ≡ done (moment (l .epoch +ℤ pos d) (m / 1000) (fraction (l .part) m p))
   unfolding timed
   timed-is h k = need-yes 4 _ (le-leb m 86400999 h) ∙ need-yes 4 _ (lt-ltb p (parts (l .part)) k)
 
-module _ (t : Table) (s : List ℕ) (at : ℕ) (l : Layout) where
-  pub field-none : isWidth l ≡ false → fieldBy t s at l ≡ refused 3
-  unfolding fieldBy
+module _ (s : List ℕ) (at : ℕ) (l : Layout) where
+  pub field-none : isWidth l ≡ false → field s at l ≡ refused 3
+  unfolding field
   field-none e = need-no 3 _ e
 
-  pub field-epoch : isWidth l ≡ true → isEpochDay (l .epoch) ≡ false → fieldBy t s at l ≡ refused 7
-  unfolding fieldBy
+  pub field-epoch : isWidth l ≡ true → isEpochDay (l .epoch) ≡ false → field s at l ≡ refused 7
+  unfolding field
   field-epoch w e = need-yes 3 _ w ∙ need-no 7 _ e
 
   module _ (e : isLayout l ≡ true) where
-    pub field-short : length s < at + (l .day + 4 + l .part) → fieldBy t s at l ≡ refused 1
-    unfolding fieldBy isLayout
+    pub field-short : length s < at + (l .day + 4 + l .part) → field s at l ≡ refused 1
+    unfolding field isLayout
     field-short h = needs-yes (isWidth l) _ 3 7 _ e ∙ need-no {t = leb (at + width l) (length s)} 1 _ (rw (width-is l e) (lt-leb _ _ h))
 
-    pub field-is : (d m p : ℕ) → at + (l .day + 4 + l .part) ≤ length s → countAt s at (l .day) ≡ Done d → countAt s (at + l .day) 4 ≡ Done m → countAt s (at + l .day + 4) (l .part) ≡ Done p → fieldBy t s at l ≡ timed t l d m p
-    unfolding fieldBy isLayout
+    pub field-is : (d m p : ℕ) → at + (l .day + 4 + l .part) ≤ length s → countAt s at (l .day) ≡ Done d → countAt s (at + l .day) 4 ≡ Done m → countAt s (at + l .day + 4) (l .part) ≡ Done p → field s at l ≡ timed l d m p
+    unfolding field isLayout
     field-is d m p h a b c = needs-yes (isWidth l) _ 3 7 _ e ∙ need-yes {t = leb (at + width l) (length s)} 1 _ (rw (width-is l e) (le-leb _ _ h)) ∙ rw (a, b, c)

@@ -2,6 +2,5 @@ pub mod Laws
 pub mod Ticks
 pub mod Stores
 pub mod Trips
-pub mod Order
 pub mod Promises
 pub mod Known

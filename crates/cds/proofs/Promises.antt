@@ -1,105 +1,100 @@
--- What CDS promises across calls, by the built-in table: valid times, widths, both round trips, the latest time that is not after the source, and exactly when a write is refused.
-use mathlib.Core.Path.{_≡_, refl, sym, ap, _∙_}
-use mathlib.Core.Bool.{Bool, true, false}
-use mathlib.Core.List.{List, [], _++_, append-nil}
-use Prim.Native.Nat.{ℕ, _+_, _^_, _≤_}
+-- What CDS promises of moments across calls: valid moments, widths, both round trips, the floor of a source, which seconds have a T-field, and exactly when a write is refused.
+use mathlib.Core.Path.{_≡_, sym, ap, _∙_}
+use mathlib.Core.Bool.{true, false}
+use mathlib.Core.List.{List, _++_}
+use Prim.Native.Nat.{ℕ, _+_, _≤_}
 use native.Mathlib.Omega.{arith}
-use lib.IntN.{ℤ, pos}
+use lib.Dec.{lit<}
+use lib.IntN.{ℤ}
 use lib.ListN.{length, take, drop}
-use Rattle.base.specs.Parts.{within}
 use Rattle.base.specs.Outcome.{done, refused}
-use Rattle.base.proofs.Ladders.{never, done-is}
-use Rattle.base.proofs.Signed.{within-low, within-high, apart}
-use Rattle.scale.specs.Time.{Time, isRecord}
-use Rattle.scale.specs.Latest.{NotAfter, Latest}
-use Rattle.scale.proofs.Laws.{within-good}
-use Rattle.scale.proofs.Latest.{later-source}
-use Rattle.leap.specs.Builtin.{builtin}
-use Rattle.leap.specs.Utc.{utcOfSecond}
-use Rattle.leap.specs.declared.Utc.{Utc}
-use Rattle.leap.proofs.Builtin.{builtin-good}
-use Rattle.leap.proofs.Promises.{second-then-utc}
-use Rattle.leap.proofs.Rule.{uncovered}
-use Rattle.cds.specs.Cds.{isLayout, width, field, Reads, held, coded, bytesOf, Holds}
+use Rattle.base.proofs.Ladders.{done-is, need-yes, need-no, needs-yes, need-done, needs-done}
+use Rattle.moment.specs.Moment.{moment, isMoment, Floor}
+use Rattle.moment.specs.declared.Moment.{Moment}
+use Rattle.moment.proofs.Laws.{parts-moment}
+use Rattle.cds.specs.Cds.{isEpochDay, isWidth, isLayout, width, field, Reads, held, coded, bytesOf}
 use Rattle.cds.specs.declared.Layout.{Layout}
 use Rattle.cds.proofs.Laws.{width-is}
 use Rattle.cds.proofs.Ticks.{fraction-lt}
-use Rattle.cds.proofs.Stores.{length-laid, on-in, on-out, bytes-on, bytes-uncovered}
-use Rattle.cds.proofs.Trips.{found, told-bytes, floored, given-reads, named-bytes}
-use Rattle.cds.proofs.Order.{given-latest, holds-held}
+use Rattle.cds.proofs.Stores.{length-laid}
+use Rattle.cds.proofs.Trips.{found, floored, coded-reads, coded-floor, named-coded}
+
+-- ---- when a write is refused, and when it is not
+module _ (l : Layout) (m : Moment) where
+  pub layout-refused : isWidth l ≡ false → bytesOf l m ≡ refused 3
+  unfolding bytesOf
+  layout-refused e = need-no 3 _ e
+
+  pub epoch-refused : isWidth l ≡ true → isEpochDay (l .epoch) ≡ false → bytesOf l m ≡ refused 7
+  unfolding bytesOf
+  epoch-refused w e = need-yes 3 _ w ∙ need-no 7 _ e
+
+  module _ (e : isLayout l ≡ true) where
+    pub moment-refused : isMoment m ≡ false → bytesOf l m ≡ refused 7
+    unfolding bytesOf isLayout
+    moment-refused v = needs-yes (isWidth l) _ 3 7 _ e ∙ need-no 7 _ v
+
+    pub written-out : isMoment m ≡ true → held l (m .day) ≡ false → bytesOf l m ≡ refused 7
+    unfolding bytesOf isLayout
+    written-out v h = needs-yes (isWidth l) _ 3 7 _ e ∙ need-yes 7 _ v ∙ need-no 7 _ h
+
+    pub written-held : isMoment m ≡ true → held l (m .day) ≡ true → bytesOf l m ≡ done (coded l m)
+    unfolding bytesOf isLayout
+    written-held v h = needs-yes (isWidth l) _ 3 7 _ e ∙ need-yes 7 _ v ∙ need-yes 7 _ h
+
+  -- and what a write that is not refused tells
+  pub told : (code : List ℕ) → bytesOf l m ≡ done code → (isLayout l ≡ true) × (isMoment m ≡ true) × (held l (m .day) ≡ true) × (coded l m ≡ code)
+  unfolding bytesOf isLayout
+  told code e =
+      let (a, f) = needs-done (isWidth l) (isEpochDay (l .epoch)) 3 7 _ code e in
+      let (b, g) = need-done (isMoment m) 7 _ code f in
+      let (c, h) = need-done (held l (m .day)) 7 (done (coded l m)) code g in
+      (a, b, c, done-is _ code h)
 
 -- ---- reading
--- a second that has a reading is covered
-cover : (z : ℤ) (u : Utc) → utcOfSecond builtin z ≡ done u → within (pos 441763210) (pos 2145916836) z ≡ true
-cover z u e = go (within (pos 441763210) (pos 2145916836) z) refl
-  where
-    go : (b : Bool) → within (pos 441763210) (pos 2145916836) z ≡ b → within (pos 441763210) (pos 2145916836) z ≡ true
-    go true f = f
-    go false f = never 5 u (sym (uncovered z f) ∙ e)
-
-module _ (s : List ℕ) (at : ℕ) (l : Layout) (m : Time) (e : field s at l ≡ done m) where
-  -- what is read is a valid record
-  pub read-valid : isRecord m ≡ true
+module _ (s : List ℕ) (at : ℕ) (l : Layout) (m : Moment) (e : field s at l ≡ done m) where
+  -- what is read is a valid moment
+  pub read-valid : isMoment m ≡ true
   read-valid =
-      let f = found builtin s at l m e in
-      let (u, (h, i, j)) = second-then-utc builtin builtin-good _ _ (m .sec) (f .named .second) in
-      let c = cover (m .sec) u h in
-      let lo = within-low (pos 441763210) (pos 2145916836) (m .sec) c in
-      let hi = within-high (pos 441763210) (pos 2145916836) (m .sec) c in
-      within-good (2 ^ 41) m (record {
-        low = omega (arith, lo, hi, apart (m .sec));
-        high = omega (arith, lo, hi, apart (m .sec));
-        below = omega (arith, f .named .ticks, fraction-lt (l .part) (f .m) (f .p) (f .named .part));
-      })
+      let f = found s at l m e in
+      let x = ap (λ (c : Moment). c .second) (f .named .is) in
+      let t = ap (λ (c : Moment). c .ticks) (f .named .is) in
+      parts-moment m (omega (arith, x, f .named .milli)) (omega (arith, t, fraction-lt (l .part) (f .m) (f .p) (f .named .part)))
 
   pub read-width : at + width l ≤ length s
-  read-width = let f = found builtin s at l m e in rw (width-is l (f .named .layout)) (f .fits)
+  read-width = let f = found s at l m e in rw (width-is l (f .named .layout)) (f .fits)
 
   -- what is read is written back in the same bytes
   pub read-written : bytesOf l m ≡ done (take (width l) (drop at s))
   read-written =
-      let f = found builtin s at l m e in
-      rw (width-is l (f .named .layout), f .text) (named-bytes builtin builtin-good l m (f .d) (f .m) (f .p) read-valid (f .named))
+      let f = found s at l m e in
+      let (h, c) = named-coded l m (f .d) (f .m) (f .p) (f .named) in
+      rw (width-is l (f .named .layout), f .text) (written-held l m (f .named .layout) read-valid h ∙ ap done c)
 
 -- ---- writing
-module _ (l : Layout) (r : Time) (code : List ℕ) (e : bytesOf l r ≡ done code) where
+module _ (l : Layout) (m : Moment) (code : List ℕ) (e : bytesOf l m ≡ done code) where
   pub write-width : length code ≡ width l
-  write-width =
-      let w = told-bytes builtin l r code e in
-      ap length (sym (w .text)) ∙ length-laid l _ _ _ ∙ sym (width-is l (w .layout))
+  write-width = let (a, b, c, d) = told l m code e in ap length (sym d) ∙ length-laid l _ _ _ ∙ sym (width-is l a)
 
-  -- what is written reads, wherever it stands, to the latest time that is not after the source among those that T-fields read to
-  pub written-reads : (m : Time) × (Latest (Reads l) r m) × ((s t : List ℕ) (at : ℕ) → at ≤ length s → drop at s ≡ code ++ t → field s at l ≡ done m)
+  -- what is written reads, wherever it stands, to the moment of the source's second with the most ticks that are not above its own, among all that T-fields read to
+  pub written-reads : (n : Moment) × (Floor (Reads l) m n) × ((s t : List ℕ) (at : ℕ) → at ≤ length s → drop at s ≡ code ++ t → field s at l ≡ done n)
   written-reads =
-      let w = told-bytes builtin l r code e in
-      (floored l (w .utc) r, given-latest builtin builtin-good l r code w, given-reads builtin builtin-good l r code w)
+      let (a, b, c, d) = told l m code e in
+      (floored l m, coded-floor l m a b c, λ s t at h f. coded-reads l m a b c s t at h (rw d f))
 
--- a later source never gets an earlier time
-pub later-written : (l : Layout) (r r' m m' : Time) (code code' : List ℕ) → bytesOf l r ≡ done code → bytesOf l r' ≡ done code' → field code 0 l ≡ done m → field code' 0 l ≡ done m' → NotAfter r r' → NotAfter m m'
-later-written l r r' m m' code code' e e' f f' h =
-    let (n, p, q) = written-reads l r code e in
-    let (n', p', q') = written-reads l r' code' e' in
-    let a : n ≡ m = done-is n m (sym (q code [] 0 (omega arith) (sym (append-nil code))) ∙ f) in
-    let b : n' ≡ m' = done-is n' m' (sym (q' code' [] 0 (omega arith) (sym (append-nil code'))) ∙ f') in
-    rw (← a, ← b) (later-source (Reads l) r n p r' n' p' h)
+-- ---- the moments that T-fields read to
+module _ (l : Layout) (m : Moment) (r : Reads l m) where
+  pub reads-layout : isLayout l ≡ true
+  reads-layout = found (r .0) 0 l m (r .1) .named .layout
 
--- ---- when a write of a valid record under a layout is refused
-module _ (l : Layout) (r : Time) (v : isRecord r ≡ true) (e : isLayout l ≡ true) where
-  pub written-uncovered : utcOfSecond builtin (r .sec) ≡ refused 5 → bytesOf l r ≡ refused 5
-  written-uncovered h = bytes-uncovered builtin l r v e 5 h
+  -- stand on days that the layout holds
+  pub reads-held : held l (m .day) ≡ true
+  reads-held = let f = found (r .0) 0 l m (r .1) in named-coded l m (f .d) (f .m) (f .p) (f .named) .0
 
-  module _ (u : Utc) (h : utcOfSecond builtin (r .sec) ≡ done u) where
-    -- some T-field reads to a time on the source's day: it is written
-    pub written-held : Holds l (u .day) → (code : List ℕ) × (bytesOf l r ≡ done code)
-    written-held k = (coded l u (r .ticks), bytes-on builtin l r v e u h ∙ on-in l u (r .ticks) (holds-held builtin builtin-good l (u .day) k))
-
-    -- none does: 7
-    pub written-out : (Holds l (u .day) → ⊥) → bytesOf l r ≡ refused 7
-    written-out k = go (held l (u .day)) refl
-      where
-        go : (b : Bool) → held l (u .day) ≡ b → bytesOf l r ≡ refused 7
-        go true f =
-            let c = coded l u (r .ticks) in
-            let w = told-bytes builtin l r c (bytes-on builtin l r v e u h ∙ on-in l u (r .ticks) f) in
-            absurd (k (record { time = floored l (w .utc) r; reads = given-latest builtin builtin-good l r c w .had; utc = u; reading = h; on = refl }))
-        go false f = bytes-on builtin l r v e u h ∙ on-out l u (r .ticks) f
+-- and each second of a held day has a T-field
+pub held-reads : (l : Layout) → isLayout l ≡ true → (d : ℤ) → held l d ≡ true → (x : ℕ) → x ≤ 86400 → Reads l (moment d x 0)
+held-reads l e d h x k =
+    let m = moment d x 0 in
+    let f = coded-floor l m e (parts-moment m k (lit< tt)) h in
+    let z : floored l m .ticks ≡ 0 = omega (arith, f .below) in
+    rw z at (f .had)

@@ -11,11 +11,8 @@ use lib.ListN.{length, length-append}
 use Rattle.base.specs.Parts.{plus, minus, at}
 use Rattle.base.specs.declared.Seat.the-variants.{In, Out}
 use Rattle.base.specs.declared.Refusal.the-variants.{Room}
-use Rattle.base.specs.Outcome.{done, refused}
 use Rattle.base.proofs.Bools.{cond-yes, cond-no}
-use Rattle.base.proofs.Ladders.{need-yes, need-no, needs-yes}
 use Rattle.base.proofs.Signed.{same, sum, difference, apart, abs-is, within-low, within-high, within-yes, within-under, within-over}
-use Rattle.scale.specs.Time.{Time, isRecord}
 use Rattle.octets.specs.Places.{octetOf, octets}
 use Rattle.octets.specs.Stores.{pasted, Stored}
 use Rattle.octets.specs.Writes.{roomed, Wrote}
@@ -23,10 +20,7 @@ use Rattle.octets.specs.declared.Written.the-variants.{Done, Refused}
 use Rattle.octets.proofs.Places.{length-places}
 use Rattle.octets.proofs.Pastes.{length-pasted, then, stored}
 use Rattle.octets.proofs.Writes.{refuses, room-in, room-out, fills}
-use Rattle.leap.specs.Table.{Table}
-use Rattle.leap.specs.Utc.{utcOfSecond}
-use Rattle.leap.specs.declared.Utc.{Utc}
-use Rattle.cds.specs.Cds.{isEpochDay, isWidth, isLayout, held, laid, coded, bytesOn, bytesBy}
+use Rattle.cds.specs.Cds.{held, laid}
 use Rattle.cds.specs.Inner.{seatIn}
 use Rattle.cds.specs.declared.Layout.{Layout}
 
@@ -128,36 +122,3 @@ module _ (l : Layout) (d m p : ℕ) where
         let n2 : length d2 ≡ length d0 = ap length e2 ∙ length-pasted d0 at (A ++ B) (omega arith) in
         let e3 : d3 ≡ pasted d0 at (A ++ B ++ C) = then d0 (A ++ B) C at (at + l .day + 4) e2 (stored (omega arith) k .1) (omega arith) (omega arith) in
         fills (laid l d m p) _ at _ d0 d3 (room-in (laid l d m p) at d0 (omega (arith, length-laid))) (omega (arith, length-laid)) e3
-
--- ---- the rungs of a T-field's writing
-module _ (l : Layout) (u : Utc) (k : ℕ) where
-  pub on-out : held l (u .day) ≡ false → bytesOn l u k ≡ refused 7
-  unfolding bytesOn
-  on-out e = need-no 7 _ e
-
-  pub on-in : held l (u .day) ≡ true → bytesOn l u k ≡ done (coded l u k)
-  unfolding bytesOn
-  on-in e = need-yes 7 _ e
-
-module _ (t : Table) (l : Layout) (r : Time) where
-  pub bytes-invalid : isRecord r ≡ false → bytesBy t l r ≡ refused 7
-  unfolding bytesBy
-  bytes-invalid e = need-no 7 _ e
-
-  module _ (v : isRecord r ≡ true) where
-    pub bytes-none : isWidth l ≡ false → bytesBy t l r ≡ refused 3
-    unfolding bytesBy
-    bytes-none e = need-yes 7 _ v ∙ need-no 3 _ e
-
-    pub bytes-epoch : isWidth l ≡ true → isEpochDay (l .epoch) ≡ false → bytesBy t l r ≡ refused 7
-    unfolding bytesBy
-    bytes-epoch w e = need-yes 7 _ v ∙ need-yes 3 _ w ∙ need-no 7 _ e
-
-    module _ (e : isLayout l ≡ true) where
-      pub bytes-uncovered : (n : ℕ) → utcOfSecond t (r .sec) ≡ refused n → bytesBy t l r ≡ refused n
-      unfolding bytesBy isLayout
-      bytes-uncovered n h = need-yes 7 _ v ∙ needs-yes (isWidth l) _ 3 7 _ e ∙ rw h
-
-      pub bytes-on : (u : Utc) → utcOfSecond t (r .sec) ≡ done u → bytesBy t l r ≡ bytesOn l u (r .ticks)
-      unfolding bytesBy isLayout
-      bytes-on u h = need-yes 7 _ v ∙ needs-yes (isWidth l) _ 3 7 _ e ∙ rw h

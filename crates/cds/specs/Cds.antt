@@ -1,4 +1,4 @@
--- CDS (document 01, "The codes"): what a T-field names and what a moment's T-field is, under a layout and by a table.
+-- CDS (document 01, "The codes"): which moment of UTC a T-field names, and what a moment's T-field is, under a layout. Whether a table has the moment's second is judged above.
 use mathlib.Core.Path.{_≡_}
 use mathlib.Core.Bool.{Bool, cond, _&&_, _||_}
 use mathlib.Core.List.{List, _++_}
@@ -6,16 +6,14 @@ use Prim.Native.Nat.{ℕ, _+_, _-_, _*_, _/_, _%_, _^_}
 use lib.Dec.{leb, ltb, eqb}
 use lib.IntN.{ℤ, pos, negℤ, natAbs, _+ℤ_, _-ℤ_}
 use lib.ListN.{length}
-use Rattle.base.specs.Outcome.{Outcome, done, need, andThen, given}
+use Rattle.base.specs.Outcome.{Outcome, done, need, andThen}
 use Rattle.base.specs.Parts.{within}
-use Rattle.scale.specs.Time.{Time, perSecond, isRecord}
+use Rattle.scale.specs.Time.{perSecond}
 use Rattle.octets.specs.Places.{octets}
 use Rattle.octets.specs.Counts.{countAt}
 use Rattle.octets.specs.Writes.{saysCounted}
-use Rattle.leap.specs.Table.{Table}
-use Rattle.leap.specs.Builtin.{builtin}
-use Rattle.leap.specs.Utc.{utcOfSecond, secondOfUtc}
-use Rattle.leap.specs.declared.Utc.{Utc}
+use Rattle.moment.specs.Moment.{moment, isMoment}
+use Rattle.moment.specs.declared.Moment.{Moment}
 use Rattle.cds.specs.declared.Layout.{Layout}
 
 -- "caller's epoch day (-2^24 to 2^24 - 1)"
@@ -52,32 +50,26 @@ unit w = perMillisecond / parts w
 abbrev pub fraction : ℕ → ℕ → ℕ → ℕ
 fraction w m p = m % 1000 * perMillisecond + p * unit w
 
--- the moment of a day from the epoch, a millisecond of day and a remainder: "millisecond of day (.. 0 to 86,400,999)", "0 to 999", "0 to 999,999,999", else 4; then a day outside the table 5, and a millisecond from 86,400,000 on a day without one 6
-unfoldable pub timed : Table → Layout → ℕ → ℕ → ℕ → Outcome Time
-timed t l d m p =
+-- the moment of a day from the epoch, a millisecond of day and a remainder: "millisecond of day (.. 0 to 86,400,999)", "0 to 999", "0 to 999,999,999", else 4
+unfoldable pub timed : Layout → ℕ → ℕ → ℕ → Outcome Moment
+timed l d m p =
     need (leb m 86400999) 4
     (need (ltb p (parts (l .part))) 4
-    (given (λ z. record { sec = z; ticks = fraction (l .part) m p }) (secondOfUtc t (l .epoch +ℤ pos d) (m / 1000))))
+    (done (moment (l .epoch +ℤ pos d) (m / 1000) (fraction (l .part) m p))))
 
 -- the T-field from `at` on: no layout 3, its epoch 7, bytes that run out 1, then as above
-unfoldable pub fieldBy : Table → List ℕ → ℕ → Layout → Outcome Time
-fieldBy t s at l =
+unfoldable pub field : List ℕ → ℕ → Layout → Outcome Moment
+field s at l =
     settled l
     (need (leb (at + width l) (length s)) 1
     (andThen (saysCounted (countAt s at (l .day))) (λ d.
     andThen (saysCounted (countAt s (at + l .day) 4)) (λ m.
     andThen (saysCounted (countAt s (at + l .day + 4) (l .part))) (λ p.
-    timed t l d m p)))))
+    timed l d m p)))))
 
-abbrev pub field : List ℕ → ℕ → Layout → Outcome Time
-field s at l = fieldBy builtin s at l
-
--- the times that its T-fields read to
-abbrev pub ReadsBy : Table → Layout → Time → Type 0
-ReadsBy t l x = (s : List ℕ) × (fieldBy t s 0 l ≡ done x)
-
-abbrev pub Reads : Layout → Time → Type 0
-Reads l x = ReadsBy builtin l x
+-- the moments that its T-fields read to
+abbrev pub Reads : Layout → Moment → Type 0
+Reads l m = (s : List ℕ) × (field s 0 l ≡ done m)
 
 -- ---- writing
 -- "A target holds a source when its count .. of UTC days from the epoch (CDS), is not negative and fits the field"
@@ -92,27 +84,10 @@ laid l d m p = octets (l .day) d ++ octets 4 m ++ octets (l .part) p
 abbrev pub remainder : ℕ → ℕ → ℕ
 remainder w k = k % perMillisecond / unit w
 
--- the T-field of a UTC reading and ticks
-abbrev pub coded : Layout → Utc → ℕ → List ℕ
-coded l u k = laid l (natAbs (u .day -ℤ l .epoch)) (u .second * 1000 + k / perMillisecond) (remainder (l .part) k)
+-- the T-field of a moment
+abbrev pub coded : Layout → Moment → List ℕ
+coded l m = laid l (natAbs (m .day -ℤ l .epoch)) (m .second * 1000 + m .ticks / perMillisecond) (remainder (l .part) (m .ticks))
 
-unfoldable pub bytesOn : Layout → Utc → ℕ → Outcome (List ℕ)
-bytesOn l u k = need (held l (u .day)) 7 (done (coded l u k))
-
--- "record 7, then 2, 3, epoch 7, cover 5 (UTC codes only), target 7"
-unfoldable pub bytesBy : Table → Layout → Time → Outcome (List ℕ)
-bytesBy t l r = need (isRecord r) 7 (settled l (andThen (utcOfSecond t (r .sec)) (λ u. bytesOn l u (r .ticks))))
-
-abbrev pub bytesOf : Layout → Time → Outcome (List ℕ)
-bytesOf l r = bytesBy builtin l r
-
--- some T-field reads to a time on UTC day d
-pub record HoldsBy (t : Table) (l : Layout) (d : ℤ) : Type 0 where
-  pub time : Time
-  pub reads : ReadsBy t l time
-  pub utc : Utc
-  pub reading : utcOfSecond t (time .sec) ≡ done utc
-  pub on : utc .day ≡ d
-
-abbrev pub Holds : Layout → ℤ → Type 0
-Holds l d = HoldsBy builtin l d
+-- "3, epoch 7, .. target 7"; a writer given a moment that is none refuses 7, between the epoch's and the target's; no call shows it
+unfoldable pub bytesOf : Layout → Moment → Outcome (List ℕ)
+bytesOf l m = settled l (need (isMoment m) 7 (need (held l (m .day)) 7 (done (coded l m))))

@@ -1,25 +1,22 @@
 // CDS, the day segmented code: a T-field is the day from an epoch day, the millisecond of the day and a part of the
-// millisecond, in UTC. Its reading and its writing.
+// millisecond, in UTC. Its reading and its writing; whether the leap second table has such a second is judged above.
 use base::Refusal;
 use base::Seat;
-use leap::SecondAnswer;
-use leap::Utc;
-use leap::UtcAnswer;
+use moment::Moment;
+use moment::MomentAnswer;
 use octets::Counted;
 use octets::Written;
 use scale::Record;
-use scale::RecordAnswer;
 ghost use mathlib.Core.Path.{_≡_};
+ghost use mathlib.Core.Bool.{true};
 ghost use Prim.Native.Nat.{_+_, _≤_, _<_, _^_};
 ghost use lib.ListN.{length};
 ghost use Rattle.base.specs.Outcome.{andThen};
-ghost use Rattle.scale.specs.Time.{perSecond};
-ghost use Rattle.scale.specs.Answers.{recorded, saysRecord};
+ghost use Rattle.moment.specs.Moment.{isMoment, saysMoment};
 ghost use Rattle.octets.specs.Counts.{countAt};
 ghost use Rattle.octets.specs.Writes.{roomed, Wrote};
 ghost use Rattle.octets.specs.declared.Counted.the-variants as Counted;
-ghost use Rattle.leap.specs.Builtin.{builtin};
-ghost use Rattle.cds.specs.Cds.{isEpochDay, isWidth, width, parts, timed, field, laid, bytesOn, bytesOf};
+ghost use Rattle.cds.specs.Cds.{isEpochDay, isWidth, isLayout, width, parts, timed, field, laid, bytesOf};
 ghost use Rattle.cds.specs.Inner.{Good, seatIn};
 
 // The epoch day, the octets of the day (2 or 3) and the octets of the part of a millisecond (0, 2 or 4).
@@ -44,36 +41,33 @@ pub fn is_epoch(epoch: i64) -> bool
 }
 
 // The moment that the T-field from `at` on names.
-pub fn read(s: &[u8], at: usize, l: Layout) -> RecordAnswer
-    ensures { λ r. ⌜ saysRecord r ≡ field (now (s .entry)) at l ⌝ }
+pub fn read(s: &[u8], at: usize, l: Layout) -> MomentAnswer
+    ensures { λ r. ⌜ saysMoment r ≡ field (now (s .entry)) at l ⌝ }
 {
     if !is_width(l) {
-        return RecordAnswer::Refused(Refusal::Unsupported);
+        return MomentAnswer::Refused(Refusal::Unsupported);
     }
     let epoch = l.epoch;
     if !is_epoch(epoch) {
-        return RecordAnswer::Refused(Refusal::Range);
+        return MomentAnswer::Refused(Refusal::Range);
     }
     let day = l.day;
     let part = l.part;
     let w = day + 4 + part;
     let len = s.len();
     if !octets::fits(len, at, w) {
-        return RecordAnswer::Refused(Refusal::Short);
+        return MomentAnswer::Refused(Refusal::Short);
     }
     let d = number(s, at, day);
     let m = number(s, at + day, 4);
     let p = number(s, at + day + 4, part);
-    moment(l, d, m, p)
+    timed(l, d, m, p)
 }
 
 // Writes a moment's T-field from `at` on, the fraction taken downward.
-pub fn write(r: Record, l: Layout, out: &mut [u8], at: usize) -> Written
-    ensures { λ a. ⌜ Wrote (andThen (bytesOf l (recorded r)) (roomed (now (out .entry)) at)) at (now (out .entry)) (now (out .exit)) a ⌝ }
+pub fn write(m: Moment, l: Layout, out: &mut [u8], at: usize) -> Written
+    ensures { λ a. ⌜ Wrote (andThen (bytesOf l m) (roomed (now (out .entry)) at)) at (now (out .entry)) (now (out .exit)) a ⌝ }
 {
-    if !r.valid() {
-        return Written::Refused(Refusal::Range);
-    }
     if !is_width(l) {
         return Written::Refused(Refusal::Unsupported);
     }
@@ -81,12 +75,10 @@ pub fn write(r: Record, l: Layout, out: &mut [u8], at: usize) -> Written
     if !is_epoch(epoch) {
         return Written::Refused(Refusal::Range);
     }
-    let sec = r.sec;
-    let ticks = r.ticks;
-    match leap::utc_of_second(sec) {
-        UtcAnswer::Refused(why) => Written::Refused(why),
-        UtcAnswer::Done(u) => put(l, u, ticks, out, at),
+    if !m.valid() {
+        return Written::Refused(Refusal::Range);
     }
+    put(m, l, out, at)
 }
 
 // Whether a P octet gives so many octets.
@@ -124,30 +116,27 @@ fn parts(part: usize) -> u64
 }
 
 // The moment of a day from the epoch, a millisecond of day and a part of the millisecond.
-fn moment(l: Layout, d: u64, m: u64, p: u64) -> RecordAnswer
+fn timed(l: Layout, d: u64, m: u64, p: u64) -> MomentAnswer
     requires { ⌜ Good l × (d < 2 ^ 24) ⌝ }
-    ensures { λ r. ⌜ saysRecord r ≡ timed builtin l d m p ⌝ }
+    ensures { λ r. ⌜ saysMoment r ≡ timed l d m p ⌝ }
 {
     if 86400999 < m {
-        return RecordAnswer::Refused(Refusal::Field);
+        return MomentAnswer::Refused(Refusal::Field);
     }
     let part = l.part;
     let many = parts(part);
     if many <= p {
-        return RecordAnswer::Refused(Refusal::Field);
+        return MomentAnswer::Refused(Refusal::Field);
     }
     let epoch = l.epoch;
     let day = base::lowered(base::raised(epoch) + d);
-    match leap::second_of_utc(day, m / 1000) {
-        SecondAnswer::Refused(why) => RecordAnswer::Refused(why),
-        SecondAnswer::Done(sec) => {
-            let ticks = m % 1000 * (Record::TICKS / 1000) + p * (Record::TICKS / 1000 / many);
-            RecordAnswer::Done(Record {
-                sec: sec,
-                ticks: ticks,
-            })
-        }
-    }
+    let second = m / 1000;
+    let ticks = m % 1000 * (Record::TICKS / 1000) + p * (Record::TICKS / 1000 / many);
+    MomentAnswer::Done(Moment {
+        day: day,
+        second: second,
+        ticks: ticks,
+    })
 }
 
 // A UTC day's place from the epoch on, where the field can hold it.
@@ -169,23 +158,24 @@ fn seat_of(l: Layout, day: i64) -> Seat
     Seat::In(d)
 }
 
-// Stores the T-field of a UTC reading and ticks.
-fn put(l: Layout, u: Utc, ticks: u64, out: &mut [u8], at: usize) -> Written
-    requires { ⌜ Good l × (u .second ≤ 86400) × (ticks < perSecond) ⌝ }
-    ensures { λ a. ⌜ Wrote (andThen (bytesOn l u ticks) (roomed (now (out .entry)) at)) at (now (out .entry)) (now (out .exit)) a ⌝ }
+// Stores a moment's T-field, where the field can hold its day.
+fn put(m: Moment, l: Layout, out: &mut [u8], at: usize) -> Written
+    requires { ⌜ (isLayout l ≡ true) × (isMoment m ≡ true) ⌝ }
+    ensures { λ a. ⌜ Wrote (andThen (bytesOf l m) (roomed (now (out .entry)) at)) at (now (out .entry)) (now (out .exit)) a ⌝ }
 {
-    let day = u.day;
-    let second = u.second;
+    let day = m.day;
+    let second = m.second;
+    let ticks = m.ticks;
     match seat_of(l, day) {
         Seat::Out => Written::Refused(Refusal::Range),
         Seat::In(d) => {
             let part = l.part;
             let milli = Record::TICKS / 1000;
-            let m = second * 1000 + ticks / milli;
+            let whole = second * 1000 + ticks / milli;
             let many = parts(part);
             let unit = milli / many;
             let p = ticks % milli / unit;
-            store(l, d, m, p, out, at)
+            store(l, d, whole, p, out, at)
         }
     }
 }

@@ -1,4 +1,4 @@
--- What holds of every code's T-field, by its layout: one law for each fact, whichever the code is.
+-- What holds of every code's T-field, by its layout and by any table that reckons: one law for each fact, whichever the code is.
 use mathlib.Core.Path.{_≡_, refl}
 use mathlib.Core.Bool.{Bool, true, false}
 use mathlib.Core.List.{List, _++_}
@@ -14,22 +14,20 @@ use Rattle.cuc.specs.declared.Layout.{Layout as CucLayout}
 use Rattle.cds.specs.declared.Layout.{Layout as CdsLayout}
 use Rattle.ccs.specs.declared.Layout.{Layout as CcsLayout}
 use Rattle.cuc.specs.Cuc.{isWidth as isCuc, width as cucWidth}
-use Rattle.cds.specs.Cds.{isWidth as isCds, width as cdsWidth}
-use Rattle.ccs.specs.Ccs.{width as ccsWidth}
+use Rattle.cds.specs.Cds.{isWidth as isCds, width as cdsWidth, field as cdsField, bytesOf as cdsBytes}
+use Rattle.ccs.specs.Ccs.{width as ccsWidth, field as ccsField, bytesOf as ccsBytes}
 use Rattle.cuc.proofs.Layouts as UL
 use Rattle.cds.proofs.Laws as DL
 use Rattle.cuc.proofs.Promises as U
 use Rattle.cds.proofs.Promises as D
 use Rattle.ccs.proofs.Promises as C
+use Rattle.leap.specs.Table.{Table}
+use Rattle.utc.specs.Reckoning.{reckons}
+use Rattle.utc.proofs.Lift.{read-of, written-of, lift-written, lift-read}
 use Rattle.codes.specs.Reading.{fieldOf, widthOf, ReadsIn}
 use Rattle.codes.specs.Writing.{bytesOf}
 use Rattle.codes.specs.declared.pfield.Layout.{Layout}
 use Rattle.codes.specs.declared.pfield.Layout.the-variants.{Cuc, Cds, Ccs}
-
-pub field-valid : (s : List ℕ) (at : ℕ) (l : Layout) (m : Time) → fieldOf s at l ≡ done m → isRecord m ≡ true
-field-valid s at (Cuc l) m h = U.read-valid s at l m h
-field-valid s at (Cds l) m h = D.read-valid s at l m h
-field-valid s at (Ccs l) m h = C.read-valid s at l m h
 
 -- a T-field is short
 cuc-low : (l : CucLayout) (b : Bool) → isCuc l ≡ b → cucWidth l ≤ 13
@@ -50,24 +48,26 @@ width-low (Cuc l) = cuc-low l _ refl
 width-low (Cds l) = cds-low l _ refl
 width-low (Ccs l) = ccs-low l _ refl
 
-pub field-width : (s : List ℕ) (at : ℕ) (l : Layout) (m : Time) → fieldOf s at l ≡ done m → at + widthOf l ≤ length s
-field-width s at (Cuc l) m h = U.read-width s at l m h
-field-width s at (Cds l) m h = D.read-width s at l m h
-field-width s at (Ccs l) m h = C.read-width s at l m h
+-- the octets of a T-field that was read, and of one that was written
+pub field-width : (t : Table) (s : List ℕ) (at : ℕ) (l : Layout) (x : Time) → fieldOf t s at l ≡ done x → at + widthOf l ≤ length s
+field-width t s at (Cuc l) x h = U.read-width s at l x h
+field-width t s at (Cds l) x h = let r = read-of t (cdsField s at l) x h in D.read-width s at l (r .moment) (r .named)
+field-width t s at (Ccs l) x h = let r = read-of t (ccsField s at l) x h in C.read-width s at l (r .moment) (r .named)
 
-pub bytes-width : (l : Layout) (t : Time) (code : List ℕ) → bytesOf l t ≡ done code → length code ≡ widthOf l
-bytes-width (Cuc l) t code h = U.write-width l t code h
-bytes-width (Cds l) t code h = D.write-width l t code h
-bytes-width (Ccs l) t code h = C.write-width l t code h
+pub bytes-width : (t : Table) (l : Layout) (r : Time) (code : List ℕ) → bytesOf t l r ≡ done code → length code ≡ widthOf l
+bytes-width t (Cuc l) r code h = U.write-width l r code h
+bytes-width t (Cds l) r code h = let w = written-of t (cdsBytes l) r code h in D.write-width l (w .moment) code (w .writes)
+bytes-width t (Ccs l) r code h = let w = written-of t (ccsBytes l) r code h in C.write-width l (w .moment) code (w .writes)
 
--- the written T-field reads, with bytes before and after it, to the latest time that is not after the source
-pub bytes-read : (l : Layout) (r : Time) (code : List ℕ) → bytesOf l r ≡ done code → (m : Time) × ((Latest (ReadsIn l) r m) × ((s t : List ℕ) (at : ℕ) → at ≤ length s → drop at s ≡ code ++ t → fieldOf s at l ≡ done m))
-bytes-read (Cuc l) r code h = U.written-reads l r code h
-bytes-read (Cds l) r code h = let (m, late, f) = D.written-reads l r code h in (m, (late, f))
-bytes-read (Ccs l) r code h = let (m, late, f) = C.written-reads l r code h in (m, (late, f))
+module _ (t : Table) (g : reckons t ≡ true) where
+  -- what was read is a record, and writes the same bytes
+  pub field-back : (s : List ℕ) (at : ℕ) (l : Layout) (x : Time) → fieldOf t s at l ≡ done x → (isRecord x ≡ true) × (bytesOf t l x ≡ done (take (widthOf l) (drop at s)))
+  field-back s at (Cuc l) x h = (U.read-valid s at l x h, U.read-written s at l x h)
+  field-back s at (Cds l) x h = lift-read t g (λ s at. cdsField s at l) (cdsBytes l) (λ s at m. D.read-valid s at l m) s at x _ h (D.read-written s at l)
+  field-back s at (Ccs l) x h = lift-read t g (λ s at. ccsField s at l) (ccsBytes l) (λ s at m. C.read-valid s at l m) s at x _ h (C.read-written s at l)
 
--- what was read writes the same bytes
-pub read-bytes : (s : List ℕ) (at : ℕ) (l : Layout) (m : Time) → fieldOf s at l ≡ done m → bytesOf l m ≡ done (take (widthOf l) (drop at s))
-read-bytes s at (Cuc l) m h = U.read-written s at l m h
-read-bytes s at (Cds l) m h = D.read-written s at l m h
-read-bytes s at (Ccs l) m h = C.read-written s at l m h
+  -- the written T-field reads, with bytes before and after it, to the latest time that is not after the source
+  pub bytes-read : (l : Layout) (r : Time) (code : List ℕ) → isRecord r ≡ true → bytesOf t l r ≡ done code → (x : Time) × ((Latest (ReadsIn t l) r x) × ((s u : List ℕ) (at : ℕ) → at ≤ length s → drop at s ≡ code ++ u → fieldOf t s at l ≡ done x))
+  bytes-read (Cuc l) r code v h = U.written-reads l r code h
+  bytes-read (Cds l) r code v h = lift-written t g (λ s at. cdsField s at l) (cdsBytes l) (λ s at m. D.read-valid s at l m) (λ m c e. let (n, f, p) = D.written-reads l m c e in (n, (f, p))) r code v h
+  bytes-read (Ccs l) r code v h = lift-written t g (λ s at. ccsField s at l) (ccsBytes l) (λ s at m. C.read-valid s at l m) (λ m c e. let (n, f, p) = C.written-reads l m c e in (n, (f, p))) r code v h

@@ -1,7 +1,9 @@
 pub mod Parts
 pub mod Fronts
+pub mod Stamps
 pub mod Fields
 pub mod Layouts
 pub mod Promises
+pub mod Texts
 pub mod Range
 pub mod Once

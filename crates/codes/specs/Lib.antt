@@ -1,5 +1,6 @@
 pub mod PField
 pub mod Reading
 pub mod Writing
+pub mod Text
 pub mod Setting
 pub mod Answers

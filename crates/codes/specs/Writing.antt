@@ -1,4 +1,4 @@
--- Writing a binary code (document 01, "Writing: record 7, then 2, 3, epoch 7, cover 5 (UTC codes only), target 7, room 8").
+-- Writing a binary code by a leap second table (document 01, "Writing: record 7, then 2, 3, epoch 7, cover 5 (UTC codes only), target 7, room 8").
 use mathlib.Core.Bool.{Bool, true, false}
 use mathlib.Core.List.{List, _∷_}
 use Prim.Native.Nat.{ℕ}
@@ -6,6 +6,8 @@ use lib.IntN.{ℤ}
 use Rattle.base.specs.Outcome.{Outcome, need, andThen}
 use Rattle.scale.specs.Time.{Time, isRecord}
 use Rattle.octets.specs.Writes.{roomed}
+use Rattle.leap.specs.Table.{Table}
+use Rattle.utc.specs.Reckoning.{writtenBy}
 use Rattle.cuc.specs.Cuc as U
 use Rattle.cds.specs.Cds as D
 use Rattle.ccs.specs.Ccs as C
@@ -15,11 +17,11 @@ use Rattle.codes.specs.declared.Preamble.the-variants.{Front, Given}
 use Rattle.codes.specs.declared.pfield.Layout.{Layout}
 use Rattle.codes.specs.declared.pfield.Layout.the-variants.{Cuc, Cds, Ccs}
 
--- the T-field of a moment, by its code
-abbrev pub bytesOf : Layout → Time → Outcome (List ℕ)
-bytesOf (Cuc l) t = U.bytesOf l t
-bytesOf (Cds l) t = D.bytesOf l t
-bytesOf (Ccs l) t = C.bytesOf l t
+-- the T-field of a time, by its code; for a UTC code the table comes first, the layout being judged by `laid`
+abbrev pub bytesOf : Table → Layout → Time → Outcome (List ℕ)
+bytesOf t (Cuc l) r = U.bytesOf l r
+bytesOf t (Cds l) r = writtenBy t (D.bytesOf l) r
+bytesOf t (Ccs l) r = writtenBy t (C.bytesOf l) r
 
 -- "whether the octet is written"
 abbrev pub codeOf : Bool → ℕ → List ℕ → List ℕ
@@ -30,8 +32,8 @@ codeOf false o t = t
 abbrev pub fronted : Bool → ℕ → List ℕ → List ℕ → Outcome (List ℕ)
 fronted front o out t = roomed out 0 (codeOf front o t)
 
-unfoldable pub writeOf : Time → ℕ → ℤ → Bool → List ℕ → Outcome (List ℕ)
-writeOf r o e front out = need (isRecord r) 7 (andThen (laid o e) (λ l. andThen (bytesOf l r) (fronted front o out)))
+unfoldable pub writeOf : Table → Time → ℕ → ℤ → Bool → List ℕ → Outcome (List ℕ)
+writeOf t r o e front out = need (isRecord r) 7 (andThen (laid o e) (λ l. andThen (bytesOf t l r) (fronted front o out)))
 
 -- where the P octet of a written code is read from
 abbrev pub from : Bool → ℕ → Preamble

@@ -1,8 +1,11 @@
-// All codes: the binary ones CUC, CDS and CCS read from bytes and written into lent ones; settings in the module setting.
+// All codes: the binary ones CUC, CDS and CCS read from bytes and written into lent ones; ASCII in the module text,
+// settings in the module setting. Here the UTC codes meet the leap second table.
 pub mod pfield;
 pub mod setting;
+pub mod text;
 
 use base::Refusal;
+use moment::MomentAnswer;
 use octets::Written;
 use pfield::Layout;
 use pfield::LayoutAnswer;
@@ -15,6 +18,10 @@ ghost use lib.ListN.{drop};
 ghost use Rattle.base.specs.Outcome.{given, andThen};
 ghost use Rattle.scale.specs.Answers.{recorded, saysRecord};
 ghost use Rattle.octets.specs.Writes.{roomed, Wrote};
+ghost use Rattle.leap.specs.Builtin.{builtin};
+ghost use Rattle.utc.specs.Reckoning.{writtenBy};
+ghost use Rattle.cds.specs.Cds as D;
+ghost use Rattle.ccs.specs.Ccs as C;
 ghost use Rattle.codes.specs.Reading.{scanned, fieldOf, scanIn, scanAt, scanOf, usedOf};
 ghost use Rattle.codes.specs.Writing.{bytesOf, fronted, writeOf};
 ghost use Rattle.codes.specs.Answers.{saysReading};
@@ -39,7 +46,7 @@ pub struct Taken<'a> {
 
 // Reads a code from the front of the bytes.
 pub fn read<'a>(s: &'a [u8], p: Preamble, epoch: i64) -> Taken<'a>
-    ensures { λ r. ⌜ (saysReading (r .answer) ≡ scanOf (now (s .entry)) p epoch) × (now (r .rest) ≡ drop (usedOf (scanOf (now (s .entry)) p epoch)) (now (s .entry))) ⌝ }
+    ensures { λ r. ⌜ (saysReading (r .answer) ≡ scanOf builtin (now (s .entry)) p epoch) × (now (r .rest) ≡ drop (usedOf (scanOf builtin (now (s .entry)) p epoch)) (now (s .entry))) ⌝ }
 {
     let answer = scan(s, p, epoch);
     let rest = unread(s, answer);
@@ -48,7 +55,7 @@ pub fn read<'a>(s: &'a [u8], p: Preamble, epoch: i64) -> Taken<'a>
 
 // The answer alone.
 pub fn scan(s: &[u8], p: Preamble, epoch: i64) -> Reading
-    ensures { λ r. ⌜ saysReading r ≡ scanOf (now (s .entry)) p epoch ⌝ }
+    ensures { λ r. ⌜ saysReading r ≡ scanOf builtin (now (s .entry)) p epoch ⌝ }
 {
     match p {
         Preamble::Given(o) => scan_at(s, 0, o, epoch),
@@ -80,7 +87,7 @@ pub fn unread<'a>(s: &'a [u8], a: Reading) -> &'a [u8]
 
 // Writes a moment under a P octet and an epoch, with the octet in front or without it.
 pub fn write_binary(r: Record, p: u8, epoch: i64, front: bool, out: &mut [u8]) -> Written
-    ensures { λ a. ⌜ Wrote (writeOf (recorded r) p epoch front (now (out .entry))) 0 (now (out .entry)) (now (out .exit)) a ⌝ }
+    ensures { λ a. ⌜ Wrote (writeOf builtin (recorded r) p epoch front (now (out .entry))) 0 (now (out .entry)) (now (out .exit)) a ⌝ }
 {
     if !r.valid() {
         return Written::Refused(Refusal::Range);
@@ -99,7 +106,7 @@ pub fn write_binary(r: Record, p: u8, epoch: i64, front: bool, out: &mut [u8]) -
 // The T-field that starts at `at`, under the P octet o.
 fn scan_at(s: &[u8], at: usize, o: u8, epoch: i64) -> Reading
     requires { ⌜ at ≤ 1 ⌝ }
-    ensures { λ r. ⌜ saysReading r ≡ scanAt (now (s .entry)) at o epoch ⌝ }
+    ensures { λ r. ⌜ saysReading r ≡ scanAt builtin (now (s .entry)) at o epoch ⌝ }
 {
     match pfield::lay(o, epoch) {
         LayoutAnswer::Refused(why) => Reading::Refused(why),
@@ -109,12 +116,12 @@ fn scan_at(s: &[u8], at: usize, o: u8, epoch: i64) -> Reading
 
 fn field(s: &[u8], at: usize, l: Layout) -> Reading
     requires { ⌜ at ≤ 1 ⌝ }
-    ensures { λ r. ⌜ saysReading r ≡ scanIn (now (s .entry)) at l ⌝ }
+    ensures { λ r. ⌜ saysReading r ≡ scanIn builtin (now (s .entry)) at l ⌝ }
 {
     match l {
         Layout::Cuc(c) => ended(cuc::read(s, at, c), at + cuc::size(c)),
-        Layout::Cds(d) => ended(cds::read(s, at, d), at + cds::size(d)),
-        Layout::Ccs(c) => ended(ccs::read(s, at, c), at + ccs::size(c)),
+        Layout::Cds(d) => ended(utc::timed(cds::read(s, at, d)), at + cds::size(d)),
+        Layout::Ccs(c) => ended(utc::timed(ccs::read(s, at, c)), at + ccs::size(c)),
     }
 }
 
@@ -129,18 +136,36 @@ fn ended(a: RecordAnswer, end: usize) -> Reading
 
 // The T-field of a moment, stored from `at` on.
 fn put(r: Record, l: Layout, out: &mut [u8], at: usize) -> Written
-    ensures { λ a. ⌜ Wrote (andThen (bytesOf l (recorded r)) (roomed (now (out .entry)) at)) at (now (out .entry)) (now (out .exit)) a ⌝ }
+    ensures { λ a. ⌜ Wrote (andThen (bytesOf builtin l (recorded r)) (roomed (now (out .entry)) at)) at (now (out .entry)) (now (out .exit)) a ⌝ }
 {
     match l {
         Layout::Cuc(c) => cuc::write(r, c, out, at),
-        Layout::Cds(d) => cds::write(r, d, out, at),
-        Layout::Ccs(c) => ccs::write(r, c, out, at),
+        Layout::Cds(d) => put_cds(r, d, out, at),
+        Layout::Ccs(c) => put_ccs(r, c, out, at),
+    }
+}
+
+fn put_cds(r: Record, l: cds::Layout, out: &mut [u8], at: usize) -> Written
+    ensures { λ a. ⌜ Wrote (andThen (writtenBy builtin (D.bytesOf l) (recorded r)) (roomed (now (out .entry)) at)) at (now (out .entry)) (now (out .exit)) a ⌝ }
+{
+    match utc::moment_of(r) {
+        MomentAnswer::Refused(why) => Written::Refused(why),
+        MomentAnswer::Done(m) => cds::write(m, l, out, at),
+    }
+}
+
+fn put_ccs(r: Record, l: ccs::Layout, out: &mut [u8], at: usize) -> Written
+    ensures { λ a. ⌜ Wrote (andThen (writtenBy builtin (C.bytesOf l) (recorded r)) (roomed (now (out .entry)) at)) at (now (out .entry)) (now (out .exit)) a ⌝ }
+{
+    match utc::moment_of(r) {
+        MomentAnswer::Refused(why) => Written::Refused(why),
+        MomentAnswer::Done(m) => ccs::write(m, l, out, at),
     }
 }
 
 // The same behind its P octet, which is stored once the T-field has found room.
 fn put_fronted(r: Record, p: u8, l: Layout, out: &mut [u8]) -> Written
-    ensures { λ a. ⌜ Wrote (andThen (bytesOf l (recorded r)) (fronted true p (now (out .entry)))) 0 (now (out .entry)) (now (out .exit)) a ⌝ }
+    ensures { λ a. ⌜ Wrote (andThen (bytesOf builtin l (recorded r)) (fronted true p (now (out .entry)))) 0 (now (out .entry)) (now (out .exit)) a ⌝ }
 {
     match put(r, l, out, 1) {
         Written::Refused(why) => Written::Refused(why),

@@ -20,6 +20,10 @@ pub not-after-both : (a b : Time) → a .ticks < perSecond → b .ticks < perSec
 not-after-both a b ha hb p q =
     worth-one a b ha hb (same (worth a) (worth b) (omega (arith, le-yes (worth a) (worth b) p, le-yes (worth b) (worth a) q)))
 
+-- the latest among the same times, said otherwise
+pub latest-by : (Has Has' : Time → Type 0) (s m : Time) → ((x : Time) → Has x → Has' x) → ((x : Time) → Has' x → Has x) → Latest Has s m → Latest Has' s m
+latest-by Has Has' s m to from l = record { had = to m (l .had); not-after = l .not-after; no-later = λ x h k. l .no-later x (from x h) k }
+
 module _ (Has : Time → Type 0) (s m : Time) (l : Latest Has s m) where
   -- a later source never gets an earlier time
   pub later-source : (s' m' : Time) → Latest Has s' m' → NotAfter s s' → NotAfter m m'

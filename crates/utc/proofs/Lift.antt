@@ -1,7 +1,8 @@
 -- What a code promises of moments, lifted to records by any table that reckons: once for CDS, CCS and ASCII.
 use mathlib.Core.Path.{_≡_, refl, sym, ap, _∙_}
 use mathlib.Core.Bool.{Bool, true, false}
-use mathlib.Core.List.{List}
+use mathlib.Core.List.{List, _++_}
+use lib.ListN.{length, drop}
 use Prim.Native.Nat.{ℕ, _<_, _≤_}
 use native.Mathlib.Omega.{arith}
 use lib.Dec.{leb}
@@ -13,9 +14,11 @@ use Rattle.base.proofs.Signed.{le-yes, le-so}
 use Rattle.scale.specs.Time.{Time, perSecond, worth, isRecord}
 use Rattle.scale.specs.Latest.{NotAfter, Latest}
 use Rattle.scale.proofs.Laws.{worth-parts, record-ticks}
+use Rattle.scale.proofs.Latest.{latest-by}
 use Rattle.leap.specs.Table.{Table}
 use Rattle.leap.specs.Utc.{secondOfUtc}
-use Rattle.moment.specs.Moment.{Floor}
+use Rattle.moment.specs.Moment.{isMoment, Floor}
+use Rattle.moment.proofs.Laws.{moment-parts}
 use Rattle.moment.specs.declared.Moment.{Moment}
 use Rattle.utc.specs.Reckoning.{timeOf, momentOf, readBy, writtenBy, reckons, HadBy}
 use Rattle.utc.proofs.Laws.{time, time-told, time-done, moment-ticks, time-back, moment-back, time-valid}
@@ -84,3 +87,40 @@ module _ (t : Table) (g : reckons t ≡ true) where
           let q = time-told t k x i .1 in
           none-between x (rw q (small k h)) (λ y. rw q (f .most k h (omega (arith, y, q, same-ticks)))) l;
     }
+
+  -- ---- a code of fields in bytes: what it reads from a place on, and what it writes of a moment
+  module _ (field : List ℕ → ℕ → Outcome Moment) (bytes : Moment → Outcome (List ℕ)) where
+    abbrev Names : Moment → Type 0
+    Names m = (s : List ℕ) × (field s 0 ≡ done m)
+
+    abbrev pub Stands : List ℕ → Moment → Type 0
+    Stands code n = (s u : List ℕ) (at : ℕ) → at ≤ length s → drop at s ≡ code ++ u → field s at ≡ done n
+
+    -- what it writes reads, wherever it stands, to the latest time that some bytes read to and that is not after the source
+    pub lift-written : ((s : List ℕ) (at : ℕ) (m : Moment) → field s at ≡ done m → isMoment m ≡ true)
+        → ((m : Moment) (code : List ℕ) → bytes m ≡ done code → (n : Moment) × (Floor Names m n × Stands code n))
+        → (r : Time) (code : List ℕ) → isRecord r ≡ true → writtenBy t bytes r ≡ done code
+        → (x : Time) × (Latest (λ y. (s : List ℕ) × (readBy t (field s 0) ≡ done y)) r x × ((s u : List ℕ) (at : ℕ) → at ≤ length s → drop at s ≡ code ++ u → readBy t (field s at) ≡ done x))
+    lift-written valid written r code v e =
+        let w = written-of t bytes r code e in
+        let (n, (f, stands)) = written (w .moment) code (w .writes) in
+        let small : (m : Moment) → Names m → m .ticks < perSecond = λ m (s, h). moment-parts m (valid s 0 m h) .1 in
+        let x = floored Names small r (w .moment) n v (w .of) f in
+        let i = floor-is Names small r (w .moment) n v (w .of) f in (
+          x,
+          (
+            latest-by (HadBy t Names) (λ y. (s : List ℕ) × (readBy t (field s 0) ≡ done y)) r x
+                (λ y (m, ((s, h), k)). (s, read-so t (field s 0) m y h k))
+                (λ y (s, h). let q = read-of t (field s 0) y h in (q .moment, ((s, q .named), q .is)))
+                (floor-latest Names small r (w .moment) n v (w .of) f),
+            λ s u at h k. read-so t (field s at) n x (stands s u at h k) i,
+          ),
+        )
+
+    -- and what it reads is a record, written back to the same bytes
+    pub lift-read : ((s : List ℕ) (at : ℕ) (m : Moment) → field s at ≡ done m → isMoment m ≡ true)
+        → (s : List ℕ) (at : ℕ) (x : Time) (code : List ℕ) → readBy t (field s at) ≡ done x
+        → ((m : Moment) → field s at ≡ done m → bytes m ≡ done code)
+        → (isRecord x ≡ true) × (writtenBy t bytes x ≡ done code)
+    lift-read valid s at x code e back =
+        (read-record (field s at) x e (λ m h. moment-parts m (valid s at m h) .1), read-again (field s at) bytes x e ∙ back _ (read-of t (field s at) x e .named))

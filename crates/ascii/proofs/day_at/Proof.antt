@@ -1,6 +1,8 @@
 -- `ascii::day_at` meets its contract.
-use mathlib.Core.Path.{_∙_}
+use mathlib.Core.Path.{ap, _∙_}
 use borrow.Author.Needs.{needs}
+use Rattle.base.specs.Outcome.{given}
+use Rattle.calendar.specs.Gregorian.{fromEpoch}
 use Rattle.ascii.proofs.Reading.{ordinal-read, date-read}
 use Rattle.ascii.proofs.day_at.Statement.{statement}
 use Rattle.ascii.proofs.day_at.Tie as tie
@@ -11,14 +13,14 @@ number-requires c κs = search needs
 number-requires-2 : tie.Need-number-requires-2
 number-requires-2 c κs = search needs
 
-index-of-ordinal-requires : tie.Need-index-of-ordinal-requires
-index-of-ordinal-requires c κs = search needs
+day-of-ordinal-requires : tie.Need-day-of-ordinal-requires
+day-of-ordinal-requires c κs = search needs
 
 returns : tie.Need-returns
 returns c =
     let y = c .before in
     let x = y .before .before in
-    rw (y .before .if1 .taken) (c .index-of-ordinal .ensures ∙ ordinal-read (x .before .before .args .s .now) (x .number .result) (y .number2 .result) (x .number .ensures .0) (y .number2 .ensures .0))
+    rw (y .before .if1 .taken) (c .day-of-ordinal .ensures ∙ ap (given fromEpoch) (ordinal-read (x .before .before .args .s .now) (x .number .result) (y .number2 .result) (x .number .ensures .0) (y .number2 .ensures .0)))
 
 number-requires-3 : tie.Need-number-requires-3
 number-requires-3 c κs = search needs
@@ -26,8 +28,8 @@ number-requires-3 c κs = search needs
 number-requires-4 : tie.Need-number-requires-4
 number-requires-4 c κs = search needs
 
-index-of-date-requires : tie.Need-index-of-date-requires
-index-of-date-requires c κs = search needs
+day-of-date-requires : tie.Need-day-of-date-requires
+day-of-date-requires c κs = search needs
 
 returns-2 : tie.Need-returns-2
 returns-2 c =
@@ -35,7 +37,7 @@ returns-2 c =
     let y = z .before in
     let x = y .before .before in
     rw (y .before .if1 .left)
-    (c .index-of-date .ensures ∙ date-read (x .before .before .args .s .now) (x .number .result) (y .number3 .result) (z .number4 .result) (x .number .ensures .0) (y .number3 .ensures .0) (z .number4 .ensures .0))
+    (c .day-of-date .ensures ∙ ap (given fromEpoch) (date-read (x .before .before .args .s .now) (x .number .result) (y .number3 .result) (z .number4 .result) (x .number .ensures .0) (y .number3 .ensures .0) (z .number4 .ensures .0)))
 
 pub day-at-spec : {M : Type 1} → statement M
 day-at-spec =
@@ -43,9 +45,9 @@ day-at-spec =
     (tie.spec
     number-requires
     number-requires-2
-    index-of-ordinal-requires
+    day-of-ordinal-requires
     returns
     number-requires-3
     number-requires-4
-    index-of-date-requires
+    day-of-date-requires
     returns-2)

@@ -3,15 +3,17 @@ use mathlib.Core.Path.{_≡_, sym, ap, _∙_}
 use mathlib.Core.List.{List}
 use Prim.Native.Nat.{ℕ, _+_, _-_}
 use native.Mathlib.Omega.{arith}
+use mir.Syntax.{w64}
+use mir.Val.{toZ, ofZ}
 use borrow.Author.Needs.{needs}
-use Rattle.base.specs.Outcome.{done, refused, need}
-use Rattle.calendar.specs.Answers.{saysIndex}
+use Rattle.base.specs.Outcome.{done, refused}
+use Rattle.calendar.specs.Answers.{saysDay}
 use Rattle.clock.specs.Answers.{saysClock}
 use Rattle.ascii.specs.declared.Layout.{Layout}
-use Rattle.ascii.specs.Ascii.{frontOf, dayAt, clockAt}
-use Rattle.ascii.specs.Inner.{dateFigures, clockFigures}
+use Rattle.ascii.specs.Ascii.{frontOf}
+use Rattle.ascii.specs.Inner.{clockFigures}
 use Rattle.ascii.proofs.Sizes.{part-some}
-use Rattle.ascii.proofs.Reading.{ticksAs, clock-4, bad-date, bad-clock, bad-fraction, good-fields}
+use Rattle.ascii.proofs.Reading.{ticksAs, clock-4, dayTold, clockTold, bad-date, bad-clock, bad-fraction, good-fields}
 use Rattle.ascii.proofs.fields.Statement.{statement}
 use Rattle.ascii.proofs.fields.Tie as tie
 
@@ -22,13 +24,16 @@ slice c = c .before .before .before .before .before .before .before .args .s .no
 abbrev own : tie.After-clock-at → Layout
 own c = c .before .before .before .before .before .before .before .args .l
 
-day-is : (c : tie.After-date) → need (dateFigures (c .before .before .before .before .before .args .l .ordinal) (c .before .before .before .before .before .args .s .now)) 4 (dayAt (c .before .before .before .before .before .args .l .ordinal) (c .before .before .before .before .before .args .s .now)) ≡ done (c .date .given .0 .0)
-day-is c = sym (c .before .before .day-at .ensures) ∙ ap saysIndex (c .date .given .1)
+dated : (c : tie.After-day-at) → dayTold (c .before .before .before .args .l) (c .before .before .before .args .s .now) ≡ saysDay (c .day-at .result)
+dated c = sym (c .day-at .ensures)
 
-clocked : (c : tie.After-clock-at) → saysClock (c .clock-at .result) ≡ need (clockFigures (slice c) (frontOf (own c .ordinal) - 8)) 4 (clockAt (slice c) (frontOf (own c .ordinal) - 8))
+day-is : (c : tie.After-date) → dayTold (c .before .before .before .before .before .args .l) (c .before .before .before .before .before .args .s .now) ≡ done (c .date .given .0 .0)
+day-is c = dated (c .before .before) ∙ ap saysDay (c .date .given .1)
+
+clocked : (c : tie.After-clock-at) → saysClock (c .clock-at .result) ≡ clockTold (own c) (slice c)
 clocked c = rw (c .before .before .before .before .before .front .ensures .0) at (c .clock-at .ensures)
 
-clock-is : (c : tie.After-clock) → need (clockFigures (slice (c .before .before)) (frontOf (own (c .before .before) .ordinal) - 8)) 4 (clockAt (slice (c .before .before)) (frontOf (own (c .before .before) .ordinal) - 8)) ≡ done (c .clock .given .0 .0)
+clock-is : (c : tie.After-clock) → clockTold (own (c .before .before)) (slice (c .before .before)) ≡ done (c .clock .given .0 .0)
 clock-is c = sym (clocked (c .before .before)) ∙ ap saysClock (c .clock .given .1)
 
 part-is : (c : tie.After-fraction) → c .fraction .result ≡ ticksAs (slice (c .before .before .before .before)) (frontOf (own (c .before .before .before .before) .ordinal) + 1) (own (c .before .before .before .before) .digits)
@@ -72,13 +77,15 @@ returns c =
     let k = f .before .before in
     let s = slice (k .before .before) in
     let l = own (k .before .before) in
-    sym (good-fields l s (k .before .before .before .before .date .given .0 .0) (k .clock .given .0 .0) (f .fraction .result) (part-is f) (omega arith) (day-is (k .before .before .before .before)) (clock-is k))
+    let z = k .before .before .before .before .date .given .0 .0 in
+    let e : toZ w64 (ofZ w64 z) ≡ z = search needs in
+    rw e (sym (good-fields l s (f .fraction .result) (part-is f) z (k .clock .given .0 .0) (omega arith) (day-is (k .before .before .before .before)) (clock-is k)))
 
 returns-2 : tie.Need-returns-2
 returns-2 c =
     let d = c .before .before in
     let a = d .before .before .before .args in
-    sym (bad-date (a .l) (a .s .now) _ (sym (d .day-at .ensures) ∙ ap saysIndex (c .enum-told .given .1)))
+    sym (bad-date (a .l) (a .s .now) _ (dated d ∙ ap saysDay (c .enum-told .given .1)))
 
 returns-3 : tie.Need-returns-3
 returns-3 c =
@@ -93,7 +100,7 @@ returns-4 c =
     let f = c .before in
     let s = slice (f .before .before .before .before) in
     let l = own (f .before .before .before .before) in
-    sym (bad-fraction l s 0 0 (f .fraction .result) (part-is f) (omega arith) (omega arith))
+    sym (bad-fraction l s (f .fraction .result) (part-is f) (omega arith) (omega arith))
 
 pub fields-spec : {M : Type 1} → statement M
 fields-spec =

@@ -1,17 +1,16 @@
--- `ascii::read` meets its contract.
-use mathlib.Core.Path.{_≡_, sym, ap, _∙_}
+-- `ascii::read` meets its contract: each test that fails makes the shape wrong, and past them the digits alone decide it.
+use mathlib.Core.Path.{_≡_, sym, ap, subst, _∙_}
 use mathlib.Core.List.{List}
 use Prim.Native.Nat.{ℕ}
 use native.Mathlib.Omega.{arith}
 use lib.ListN.{length}
 use borrow.Author.Tests.{not-true, not-false}
 use borrow.Author.Needs.{needs}
-use Rattle.base.specs.Outcome.{need}
-use Rattle.leap.specs.Builtin.{builtin}
-use Rattle.ascii.specs.Ascii.{width, layoutOf, fieldsOf}
-use Rattle.ascii.specs.Inner.{figures, separators, Placed, saysFound}
+use Rattle.ascii.specs.declared.Layout.{Layout}
+use Rattle.ascii.specs.Ascii.{width, layoutOf}
+use Rattle.ascii.specs.Inner.{separators, Placed}
 use Rattle.ascii.proofs.Sizes.{placed-by}
-use Rattle.ascii.proofs.Ladder.{too-short, other-length, other-marks, text-empty, text-wrong, text-field, text-done}
+use Rattle.ascii.proofs.Ladder.{too-short, other-length, other-marks, text-empty, text-wrong, text-fields}
 use Rattle.ascii.proofs.read.Statement.{statement}
 use Rattle.ascii.proofs.read.Tie as tie
 
@@ -22,23 +21,20 @@ slice c = c .before .before .before .before .args .s .now
 sized : (c : tie.After-size) → c .size .result ≡ width (layoutOf (slice (c .before)))
 sized c = c .size .ensures ∙ ap width (c .before .layout-of .ensures)
 
-placed : (c : tie.Else3) → Placed (c .before .before .layout-of .result) (length (slice (c .before .before)))
-placed c = placed-by (c .before .before .layout-of .result) (length (slice (c .before .before))) (omega arith) (sym (c .before .size .ensures) ∙ c .if3 .left)
+placed : (c : tie.Else3) → Placed (layoutOf (slice (c .before .before))) (length (slice (c .before .before)))
+placed c = placed-by (layoutOf (slice (c .before .before))) (length (slice (c .before .before))) (omega arith) (sym (sized (c .before)) ∙ c .if3 .left)
 
-own-placed : (c : tie.Else3) → Placed (layoutOf (slice (c .before .before))) (length (slice (c .before .before)))
-own-placed c = placed-by (layoutOf (slice (c .before .before))) (length (slice (c .before .before))) (omega arith) (sym (sized (c .before)) ∙ c .if3 .left)
+told-placed : (c : tie.Else3) → Placed (c .before .before .layout-of .result) (length (slice (c .before .before)))
+told-placed c = subst (λ (l : Layout). Placed l (length (slice (c .before .before)))) (sym (c .before .before .layout-of .ensures)) (placed c)
 
 marked : (c : tie.After-separated) → c .separated .result ≡ separators (layoutOf (slice (c .before .before .before))) (slice (c .before .before .before))
 marked c = rw (c .before .before .before .layout-of .ensures) at (c .separated .ensures)
 
-found : (c : tie.After-fields) → saysFound (c .fields .result) ≡ need (figures (layoutOf (slice (c .before .before .before .before .before))) (slice (c .before .before .before .before .before))) 4 (fieldsOf (layoutOf (slice (c .before .before .before .before .before))) (slice (c .before .before .before .before .before)))
-found c = rw (c .before .before .before .before .before .layout-of .ensures) at (c .fields .ensures)
-
 returns : tie.Need-returns
-returns c = sym (text-empty builtin _ (omega arith))
+returns c = sym (text-empty _ (omega arith))
 
 returns-2 : tie.Need-returns-2
-returns-2 c = let s = c .before .before .before .args .s .now in sym (text-wrong builtin s (omega arith) (too-short s (omega arith)))
+returns-2 c = let s = c .before .before .before .args .s .now in sym (text-wrong s (omega arith) (too-short s (omega arith)))
 
 layout-of-requires : tie.Need-layout-of-requires
 layout-of-requires c κs = search needs
@@ -49,41 +45,26 @@ size-requires c κs = search needs
 returns-3 : tie.Need-returns-3
 returns-3 c =
     let s = slice (c .before .before) in
-    sym (text-wrong builtin s (omega arith) (other-length s (λ e. c .if3 .taken (sized (c .before) ∙ e))))
+    sym (text-wrong s (omega arith) (other-length s (λ e. c .if3 .taken (sized (c .before) ∙ e))))
 
 separated-requires : tie.Need-separated-requires
-separated-requires c κs = placed c
+separated-requires c κs = told-placed c
 
 returns-4 : tie.Need-returns-4
 returns-4 c =
     let s = slice (c .before .before .before .before) in
-    sym (text-wrong builtin s (omega arith) (other-marks s (sym (marked (c .before)) ∙ not-true _ (c .if4 .taken))))
+    sym (text-wrong s (omega arith) (other-marks s (sym (marked (c .before)) ∙ not-true _ (c .if4 .taken))))
 
 fields-requires : tie.Need-fields-requires
-fields-requires c κs = placed (c .before .before)
-
-enum-told : tie.Need-enum-told
-enum-told c = search needs
-
-enum-known-m : tie.Need-enum-known-m
-enum-known-m c = search needs
-
-record-of-requires : tie.Need-record-of-requires
-record-of-requires c κs = search needs
+fields-requires c κs = told-placed (c .before .before)
 
 returns-5 : tie.Need-returns-5
 returns-5 c =
-    let f = c .before .before in
-    let s = slice (f .before .before .before .before .before) in
-    sym (text-field builtin s (omega arith) (sym (found f) ∙ ap saysFound (c .enum-told .given .1)))
-
-returns-6 : tie.Need-returns-6
-returns-6 c =
-    let f = c .before .before .before .before in
-    let e = f .before .before .before in
+    let m = c .before .before in
+    let e = m .before in
     let s = slice (e .before .before) in
-    c .record-of .ensures
-    ∙ sym (text-done builtin s (omega arith) (c .before .before .m .given .0 .0) (own-placed e) (sym (marked (f .before .before)) ∙ not-false _ (f .before .if4 .left)) (sym (found f) ∙ ap saysFound (c .before .before .m .given .1)))
+    rw (e .before .before .layout-of .ensures) at (c .fields .ensures)
+    ∙ text-fields s (omega arith) (placed e) (sym (marked m) ∙ not-false _ (c .before .if4 .left))
 
 pub read-spec : {M : Type 1} → statement M
 read-spec =
@@ -97,8 +78,4 @@ read-spec =
     separated-requires
     returns-4
     fields-requires
-    enum-told
-    enum-known-m
-    record-of-requires
-    returns-5
-    returns-6)
+    returns-5)

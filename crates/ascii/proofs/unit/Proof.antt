@@ -14,7 +14,7 @@ div-result c = power-low (c .before .args .d) _ (omega arith) (c .power10 .ensur
 returns : tie.Need-returns
 returns c =
     let d = c .before .args .d in
-    rw (power-is d (c .power10 .result) (omega arith) (c .power10 .ensures)) (search needs, grain d (omega arith) .0)
+    rw (power-is d (c .power10 .result) (omega arith) (c .power10 .ensures)) (search needs, grain d (omega arith) .some)
 
 pub unit-spec : {M : Type 1} → statement M
 unit-spec = tie.close (tie.spec power10-requires div-result returns)

@@ -1,49 +1,65 @@
--- `ascii::write` meets its contract.
+-- `ascii::write` meets its contract: its refusals are the ladder's, in the ladder's order, and then there is a code to store.
 use mathlib.Core.Path.{_≡_, sym, ap, _∙_}
-use Prim.Native.Nat.{_^_}
-use native.Mathlib.Omega.{arith}
-use lib.Dec.{lit<}
+use mathlib.Core.Bool.{true}
+use mathlib.Core.List.{List}
+use Prim.Native.Nat.{ℕ}
 use mir.Syntax.{w64}
 use mir.Val.{toZ, ofZ}
-use borrow.Author.Tests.{not-true, not-false}
+use borrow.Author.Tests.{leb-true, not-true, not-false}
 use borrow.Author.Needs.{needs}
 use Rattle.base.specs.declared.Refusal.the-variants.{Range, Unsupported}
-use Rattle.base.specs.Outcome.{done}
-use Rattle.scale.specs.Answers.{recorded}
-use Rattle.scale.proofs.Laws.{good-within}
+use Rattle.base.specs.Outcome.{Outcome, done, andThen}
 use Rattle.octets.proofs.Writes.{refuses}
 use Rattle.octets.specs.Writes.{roomed}
-use Rattle.leap.specs.Builtin.{builtin}
-use Rattle.leap.specs.Utc.{readingOf}
-use Rattle.leap.specs.Answers.{saysReading}
-use Rattle.leap.proofs.Builtin.{builtin-good}
-use Rattle.leap.proofs.Cover.{reading-low}
-use Rattle.leap.proofs.Promises.{reading-back}
-use Rattle.ascii.proofs.Texts.{bytes-invalid, bytes-digits, bytes-uncovered, bytes-done}
+use Rattle.calendar.specs.Gregorian.{indexOfDay}
+use Rattle.calendar.specs.Answers.{saysIndex}
+use Rattle.moment.specs.Moment.{isMoment}
+use Rattle.moment.proofs.Laws.{moment-parts}
+use Rattle.ascii.specs.Ascii.{isLayout}
+use Rattle.ascii.proofs.Ladder.{index-high, bytes-none, bytes-invalid, bytes-by}
 use Rattle.ascii.proofs.write.Statement.{statement}
 use Rattle.ascii.proofs.write.Tie as tie
 
--- what was read of the table, at the record's second
-told : (c : tie.After-reading-of) → readingOf builtin (c .before .before .before .before .before .before .args .r .sec) ≡ saysReading (c .reading-of .result)
-told c =
-    let z = c .before .before .before .before .before .before .args .r .sec in
-    let e : toZ w64 (ofZ w64 z) ≡ z = search needs in
-    sym (rw e at (c .reading-of .ensures))
+-- what the tests told
+laid : (c : tie.Else1) → isLayout (c .before .before .before .before .args .l) ≡ true
+laid c = sym (c .before .is-layout .ensures) ∙ not-false _ (c .if1 .left)
 
-found : (c : tie.After-answer2) → readingOf builtin (c .before .before .before .before .before .before .before .before .args .r .sec) ≡ done (c .answer2 .given .0 .0)
-found c = told (c .before .before) ∙ ap saysReading (c .answer2 .given .1)
+valid : (c : tie.Else2) → isMoment (c .before .before .before .before .before .before .args .m) ≡ true
+valid c = sym (c .before .valid .ensures) ∙ not-false _ (c .if2 .left)
+
+-- and the calendar of the moment's day
+told : (c : tie.After-index-of-day) → indexOfDay (c .before .before .before .before .before .before .before .args .m .day) ≡ saysIndex (c .index-of-day .result)
+told c =
+    let z = c .before .before .before .before .before .before .before .args .m .day in
+    let e : toZ w64 (ofZ w64 z) ≡ z = search needs in
+    sym (rw e at (c .index-of-day .ensures))
+
+found : (c : tie.After-answer2) → indexOfDay (c .before .before .before .before .before .before .before .before .before .args .m .day) ≡ done (c .answer2 .given .0 .0)
+found c = told (c .before .before) ∙ ap saysIndex (c .answer2 .given .1)
+
+-- what is written then goes on
+on : {x y : Outcome (List ℕ)} (k : List ℕ → Outcome (List ℕ)) → x ≡ y → andThen x k ≡ andThen y k
+on k e = ap (λ (x : Outcome (List ℕ)). andThen x k) e
+
+is-layout-requires : tie.Need-is-layout-requires
+is-layout-requires c κs = search needs
+
+returns : tie.Need-returns
+returns c =
+    let a = c .before .before .before .before .args in
+    refuses Unsupported _ (a .at) (a .out .now) (on _ (bytes-none (a .l) (a .m) (sym (c .before .is-layout .ensures) ∙ not-true _ (c .if1 .taken))))
 
 valid-requires : tie.Need-valid-requires
 valid-requires c κs = search needs
 
-returns : tie.Need-returns
-returns c = refuses Range _ (c .before .before .before .before .args .at) (c .before .before .before .before .args .out .now) (bytes-invalid builtin _ _ _ (sym (c .before .valid .ensures) ∙ not-true _ (c .if1 .taken)))
-
 returns-2 : tie.Need-returns-2
-returns-2 c = let a = c .before .before .before .before .before .args in refuses Unsupported _ (a .at) (a .out .now) (bytes-digits builtin (a .l) (recorded (a .r)) _ (sym (c .before .before .valid .ensures) ∙ not-false _ (c .before .if1 .left)) (omega arith))
+returns-2 c =
+    let e = c .before .before in
+    let a = e .before .before .before .before .args in
+    refuses Range _ (a .at) (a .out .now) (on _ (bytes-invalid (a .l) (a .m) (laid e) (sym (c .before .valid .ensures) ∙ not-true _ (c .if2 .taken))))
 
-reading-of-requires : tie.Need-reading-of-requires
-reading-of-requires c κs = search needs
+index-of-day-requires : tie.Need-index-of-day-requires
+index-of-day-requires c κs = search needs
 
 enum-known-answer : tie.Need-enum-known-answer
 enum-known-answer c = search needs
@@ -53,23 +69,23 @@ enum-known-answer-2 c = search needs
 
 part-of-requires : tie.Need-part-of-requires
 part-of-requires c κs =
-    let x = c .before .before .before in
-    let v = x .before .before .before in
-    let g = sym (v .valid .ensures) ∙ not-false _ (x .before .before .if1 .left) in
-    (omega arith, good-within (2 ^ 41) (recorded (v .before .before .before .args .r)) (lit< tt) g .below)
+    let v = c .before .before .before .before in
+    let a = v .before .before .before .before .before .before .args in
+    (leb-true (a .l .digits) 12 (laid (v .before .before)), moment-parts (a .m) (valid v) .1)
 
 store-requires : tie.Need-store-requires
 store-requires c κs =
     let k = c .before .before .before in
-    let z = k .before .before .before .before .before .before .before .before .args .r .sec in
-    (omega (arith, reading-low _ _ (found k)), reading-back builtin builtin-good z (k .answer2 .given .0 .0) (found k) .low, omega arith)
+    let v = k .before .before .before in
+    let a = v .before .before .before .before .before .before .args in
+    (index-high (a .m .day) (k .answer2 .given .0 .0) (found k), moment-parts (a .m) (valid v) .0, leb-true (a .l .digits) 12 (laid (v .before .before)))
 
 returns-3 : tie.Need-returns-3
 returns-3 c =
-    let x = c .before .before .before in
-    let v = x .before .before .before in
-    let a = v .before .before .before .args in
-    refuses _ _ (a .at) (a .out .now) (bytes-uncovered builtin (a .l) (recorded (a .r)) _ (sym (v .valid .ensures) ∙ not-false _ (x .before .before .if1 .left)) (omega arith) _ (told x ∙ ap saysReading (c .before .answer .given .1)))
+    let t = c .before .before .before in
+    let v = t .before in
+    let a = v .before .before .before .before .before .before .args in
+    refuses _ _ (a .at) (a .out .now) (on _ (bytes-by (a .l) (a .m) (laid (v .before .before)) (valid v) _ (told t ∙ ap saysIndex (c .before .answer .given .1))))
 
 same-length : tie.Need-same-length
 same-length c = search needs
@@ -79,20 +95,20 @@ returns-4 c =
     let s = c .before .before in
     let p = s .before .before in
     let k = p .before .before in
-    let x = k .before .before in
-    let v = x .before .before .before in
-    let a = v .before .before .before .args in
-    rw (bytes-done builtin (a .l) (recorded (a .r)) (roomed (a .out .now) (a .at)) (sym (v .valid .ensures) ∙ not-false _ (x .before .before .if1 .left)) (omega arith) (k .answer2 .given .0 .0) (found k))
+    let v = k .before .before .before in
+    let a = v .before .before .before .before .before .before .args in
+    rw (on (roomed (a .out .now) (a .at)) (bytes-by (a .l) (a .m) (laid (v .before .before)) (valid v) (done (k .answer2 .given .0 .0)) (found k)))
     (rw (p .part-of .ensures) at (s .store .ensures))
 
 pub write-spec : {M : Type 1} → statement M
 write-spec =
     tie.close
     (tie.spec
-    valid-requires
+    is-layout-requires
     returns
+    valid-requires
     returns-2
-    reading-of-requires
+    index-of-day-requires
     enum-known-answer
     enum-known-answer-2
     part-of-requires

@@ -1,4 +1,4 @@
--- `ccs::clock_at` meets its contract.
+-- `ccs::clock_at` meets its contract: six digits are read as one run, which is the hour, the minute and the second.
 use mathlib.Core.Path.{sym, ap, _∙_}
 use borrow.Author.Needs.{needs}
 use Rattle.octets.specs.Writes.{saysCounted}

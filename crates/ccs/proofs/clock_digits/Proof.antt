@@ -1,4 +1,4 @@
--- `ccs::clock_digits` meets its contract.
+-- `ccs::clock_digits` meets its contract: the fields of a clock are in their ranges, so their digits are one run.
 use native.Mathlib.Omega.{arith}
 use borrow.Author.Needs.{needs}
 use Rattle.clock.proofs.Laws.{Shown, shown}

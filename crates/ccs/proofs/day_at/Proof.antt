@@ -1,4 +1,4 @@
--- `ccs::day_at` meets its contract.
+-- `ccs::day_at` meets its contract: eight digits are read as one run, which is the year and the date.
 use mathlib.Core.Path.{sym, ap, _∙_}
 use borrow.Author.Needs.{needs}
 use Rattle.octets.specs.Writes.{saysCounted}
@@ -18,19 +18,19 @@ enum-told-2 c = search needs
 enum-known-number : tie.Need-enum-known-number
 enum-known-number c = search needs
 
-index-of-ordinal-requires : tie.Need-index-of-ordinal-requires
-index-of-ordinal-requires c κs = search needs
+day-of-ordinal-requires : tie.Need-day-of-ordinal-requires
+day-of-ordinal-requires c κs = search needs
 
 returns : tie.Need-returns
 returns c =
     let n = c .before .before .before in
     let b = n .before .before in
     let s = b .before .before in
-    c .index-of-ordinal .ensures
+    c .day-of-ordinal .ensures
     ∙ sym (day-ordinal _ _ (s .pre) _ _ (c .before .if1 .taken) (ap saysCounted (sym (b .bcd .ensures) ∙ n .number .given .1)))
 
-index-of-date-requires : tie.Need-index-of-date-requires
-index-of-date-requires c κs = search needs
+day-of-date-requires : tie.Need-day-of-date-requires
+day-of-date-requires c κs = search needs
 
 returns-2 : tie.Need-returns-2
 returns-2 c =
@@ -47,7 +47,7 @@ returns-4 c =
     let n = c .before .before .before in
     let b = n .before .before in
     let s = b .before .before in
-    c .index-of-date .ensures
+    c .day-of-date .ensures
     ∙ sym (day-month _ _ (s .pre) _ _ (c .before .if1 .left) (ap saysCounted (sym (b .bcd .ensures) ∙ n .number .given .1)))
 
 pub day-at-spec : {M : Type 1} → statement M
@@ -58,9 +58,9 @@ day-at-spec =
     enum-told
     enum-told-2
     enum-known-number
-    index-of-ordinal-requires
+    day-of-ordinal-requires
     returns
-    index-of-date-requires
+    day-of-date-requires
     returns-2
     returns-3
     returns-4)

@@ -1,6 +1,8 @@
--- `ccs::in_day` meets its contract.
+-- `ccs::in_day` meets its contract: the rest is that of the second of the day, or the clock's refusal.
 use mathlib.Core.Path.{sym, ap, _∙_}
 use borrow.Author.Needs.{needs}
+use mir.Syntax.{w64}
+use Rattle.base.proofs.Signed.{back}
 use Rattle.clock.specs.Answers.{saysClock}
 use Rattle.ccs.proofs.in_day.Statement.{statement}
 use Rattle.ccs.proofs.in_day.Tie as tie
@@ -26,7 +28,10 @@ returns c = rw (sym (c .before .before .before .clock-at .ensures) ∙ ap saysCl
 returns-2 : tie.Need-returns-2
 returns-2 c =
     let a = c .before .before in
-    rw (sym (a .before .before .clock-at .ensures) ∙ ap saysClock (a .answer2 .given .1)) (c .in-second .ensures)
+    let k = a .before .before in
+    let s = k .before .before in
+    rw (sym (k .clock-at .ensures) ∙ ap saysClock (a .answer2 .given .1))
+    (rw (back w64 (s .args .day) (s .fits .day)) at (c .in-second .ensures))
 
 pub in-day-spec : {M : Type 1} → statement M
 in-day-spec =

@@ -1,7 +1,14 @@
--- `ccs::in_second` meets its contract.
+-- `ccs::in_second` meets its contract: a part that was read fits its pairs, so its ticks are less than a second.
 use mathlib.Core.Path.{sym, _∙_}
+use Prim.Native.Nat.{_*_, _^_, _<_}
+use native.Mathlib.Omega.{arith}
 use borrow.Author.Needs.{needs}
+use mir.Syntax.{w64}
+use Rattle.base.proofs.Signed.{back}
+use Rattle.scale.specs.Time.{perSecond}
+use Rattle.scale.proofs.Fractions.{ticks-lt}
 use Rattle.ccs.proofs.Pairs.{pair-read}
+use Rattle.ccs.proofs.Parts.{grain}
 use Rattle.ccs.proofs.in_second.Statement.{statement}
 use Rattle.ccs.proofs.in_second.Tie as tie
 
@@ -17,10 +24,19 @@ enum-told-2 c = search needs
 enum-known-number : tie.Need-enum-known-number
 enum-known-number c = search needs
 
-moment-requires : tie.Need-moment-requires
-moment-requires c κs =
-    let b = c .before .before .before in
-    (b .before .before .pre, pair-read _ _ _ _ (sym (b .bcd .ensures) ∙ c .before .number .given .1) .0)
+unit-requires : tie.Need-unit-requires
+unit-requires c κs = search needs
+
+mul-ticks : tie.Need-mul-ticks
+mul-ticks c =
+    let n = c .before .before in
+    let b = n .before .before in
+    let s = b .before .before in
+    let w = s .args .segments in
+    let part = n .number .given .0 .0 in
+    let l : part < 100 ^ w = pair-read _ _ _ _ (sym (b .bcd .ensures) ∙ n .number .given .1) .0 in
+    let h : part * c .unit .result < perSecond = rw (c .unit .ensures) (ticks-lt (grain w (s .pre)) part l) in
+    omega arith
 
 returns : tie.Need-returns
 returns c = rw (sym (c .before .before .bcd .ensures) ∙ c .enum-told .given .1)
@@ -31,7 +47,9 @@ returns-2 c = rw (sym (c .before .before .bcd .ensures) ∙ c .enum-told2 .given
 returns-3 : tie.Need-returns-3
 returns-3 c =
     let n = c .before .before in
-    rw (sym (n .before .before .bcd .ensures) ∙ n .number .given .1) (c .moment .ensures)
+    let b = n .before .before in
+    let s = b .before .before in
+    rw (sym (b .bcd .ensures) ∙ n .number .given .1, back w64 (s .args .day) (s .fits .day), c .unit .ensures)
 
 pub in-second-spec : {M : Type 1} → statement M
 in-second-spec =
@@ -41,7 +59,8 @@ in-second-spec =
     enum-told
     enum-told-2
     enum-known-number
-    moment-requires
+    unit-requires
+    mul-ticks
     returns
     returns-2
     returns-3)

@@ -1,4 +1,4 @@
--- `ccs::store` meets its contract.
+-- `ccs::store` meets its contract: three runs stored one behind the other are the code.
 use Prim.Native.Nat.{_+_}
 use native.Mathlib.Omega.{arith}
 use borrow.Author.Needs.{needs}

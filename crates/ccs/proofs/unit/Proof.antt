@@ -1,4 +1,4 @@
--- `ccs::unit` meets its contract.
+-- `ccs::unit` meets its contract: a pair is two digits.
 use mathlib.Core.Path.{_≡_, _∙_}
 use Prim.Native.Nat.{_^_}
 use borrow.Author.Needs.{needs}

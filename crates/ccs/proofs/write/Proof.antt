@@ -1,34 +1,27 @@
--- `ccs::write` meets its contract.
+-- `ccs::write` meets its contract: each rung's test is the definition's, and the three runs of digits are its text.
 use mathlib.Core.Path.{_≡_, sym, ap, _∙_}
 use mathlib.Core.Bool.{true}
 use mathlib.Core.List.{List, _++_}
 use Prim.Native.Nat.{ℕ, _/_}
 use native.Mathlib.Omega.{arith}
 use borrow.Author.Needs.{needs}
-use borrow.Author.Tests.{not-true, not-false}
+use borrow.Author.Tests.{not-true, not-false, le-leb, lt-leb}
 use mir.Syntax.{w64}
 use mir.Val.{toZ, ofZ}
 use Rattle.base.specs.Outcome.{Outcome, done, andThen, given}
 use Rattle.base.specs.declared.Refusal.the-variants.{Range, Unsupported}
-use Rattle.scale.specs.Time.{isRecord}
-use Rattle.scale.specs.Answers.{recorded}
 use Rattle.octets.specs.Places.{bcd}
 use Rattle.octets.specs.Writes.{roomed}
 use Rattle.octets.proofs.Writes.{refuses}
 use Rattle.calendar.specs.Answers.{saysIndex}
-use Rattle.leap.specs.Builtin.{builtin}
-use Rattle.leap.specs.Utc.{readingOf}
-use Rattle.leap.specs.Answers.{saysReading}
-use Rattle.leap.proofs.Builtin.{builtin-good}
-use Rattle.leap.proofs.Promises.{reading-back}
-use Rattle.ccs.specs.Ccs.{clockText, partOf}
+use Rattle.moment.specs.Moment.{isMoment}
+use Rattle.moment.proofs.Laws.{moment-parts}
+use Rattle.ccs.specs.Ccs.{isLayout, dateText, clockText, partOf}
 use Rattle.ccs.proofs.Parts.{grain}
-use Rattle.ccs.proofs.Rungs.{wrote-by, not-record, not-layout, not-covered, covered}
+use Rattle.ccs.proofs.Rungs.{wrote-by, dated}
+use Rattle.ccs.proofs.Promises.{layout-refused, moment-refused}
 use Rattle.ccs.proofs.write.Statement.{statement}
 use Rattle.ccs.proofs.write.Tie as tie
-
-valid-requires : tie.Need-valid-requires
-valid-requires c κs = search needs
 
 -- the room's rung, behind what was answered
 behind : {x : Outcome (List ℕ)} (k : List ℕ → Outcome (List ℕ)) {y : Outcome (List ℕ)} → x ≡ y → andThen x k ≡ andThen y k
@@ -36,35 +29,24 @@ behind k e = ap (λ (z : Outcome (List ℕ)). andThen z k) e
 
 returns : tie.Need-returns
 returns c =
-    let s = c .before .before .before .args in
-    refuses Range _ _ _ (behind (roomed (s .out .now) (s .at)) (not-record builtin (s .l) (recorded (s .r)) (sym (c .before .valid .ensures) ∙ not-true _ (c .if1 .taken))))
+    let s = c .before .before .args in
+    refuses Unsupported _ _ _ (behind (roomed (s .out .now) (s .at)) (layout-refused (s .l) (s .m) (lt-leb (s .l .segments) 6 (omega arith))))
 
-ok : (c : tie.Else1) → isRecord (recorded (c .before .before .before .args .r)) ≡ true
-ok c = sym (c .before .valid .ensures) ∙ not-false _ (c .if1 .left)
+valid-requires : tie.Need-valid-requires
+valid-requires c κs = search needs
+
+few : (c : tie.Else1) → isLayout (c .before .before .args .l) ≡ true
+few c = le-leb (c .before .before .args .l .segments) 6 (omega arith)
 
 returns-2 : tie.Need-returns-2
+unfolding isMoment
 returns-2 c =
     let s = c .before .before .before .before .args in
-    refuses Unsupported _ _ _ (behind (roomed (s .out .now) (s .at)) (not-layout builtin (s .l) (recorded (s .r)) (ok (c .before)) (omega arith)))
+    refuses Range _ _ _ (behind (roomed (s .out .now) (s .at)) (moment-refused (s .l) (s .m) (few (c .before .before)) (sym (c .before .valid .ensures) ∙ not-true _ (c .if2 .taken))))
 
-reading-of-requires : tie.Need-reading-of-requires
-reading-of-requires c κs = search needs
-
-enum-known-answer : tie.Need-enum-known-answer
-enum-known-answer c = search needs
-
-enum-known-answer-2 : tie.Need-enum-known-answer-2
-enum-known-answer-2 c = search needs
-
--- the second, as it was lent to the table
-lent : (c : tie.After-reading-of) → toZ w64 (ofZ w64 (c .before .before .before .before .before .before .args .r .sec)) ≡ c .before .before .before .before .before .before .args .r .sec
-lent c = search needs
-
-told : (c : tie.After-reading-of) → readingOf builtin (c .before .before .before .before .before .before .args .r .sec) ≡ saysReading (c .reading-of .result)
-told c = sym (rw (lent c) at (c .reading-of .ensures))
-
-read : (c : tie.After-answer2) → readingOf builtin (c .before .before .before .before .before .before .before .before .args .r .sec) ≡ done (c .answer2 .given .0 .0)
-read c = told (c .before .before) ∙ ap saysReading (c .answer2 .given .1)
+ok : (c : tie.Else2) → isMoment (c .before .before .before .before .args .m) ≡ true
+unfolding isMoment
+ok c = sym (c .before .valid .ensures) ∙ not-false _ (c .if2 .left)
 
 date-digits-requires : tie.Need-date-digits-requires
 date-digits-requires c κs = search needs
@@ -75,66 +57,62 @@ enum-known-date c = search needs
 enum-known-date-2 : tie.Need-enum-known-date-2
 enum-known-date-2 c = search needs
 
+-- the day, as it was lent to the calendar
+lent : (c : tie.After-date-digits) → let s = c .before .before .before .before .before .before .args in toZ w64 (ofZ w64 (s .m .day)) ≡ s .m .day
+lent c = search needs
+
+told : (c : tie.After-date-digits) → let s = c .before .before .before .before .before .before .args in dateText (s .l .ordinal) (s .m .day) ≡ given (bcd 4) (saysIndex (c .date-digits .result))
+told c = sym (rw (lent c) at (c .date-digits .ensures))
+
 clock-digits-requires : tie.Need-clock-digits-requires
-clock-digits-requires c κs = reading-back builtin builtin-good _ _ (read (c .before .before .before .before .before)) .low
+clock-digits-requires c κs = moment-parts _ (ok (c .before .before .before .before .before)) .0
 
 unit-requires : tie.Need-unit-requires
 unit-requires c κs = search needs
 
 div-store : tie.Need-div-store
-div-store c = rw (c .unit .ensures) (grain (c .before .before .before .before .before .before .before .before .before .before .before .before .before .before .before .before .args .l .segments) (omega arith) .0)
+div-store c =
+    let d = c .before .before .before .before .before .before in
+    rw (c .unit .ensures) (grain (d .before .before .before .before .before .before .args .l .segments) (omega arith) .some)
 
 store-requires : tie.Need-store-requires
 store-requires c κs = search needs
 
 returns-3 : tie.Need-returns-3
 returns-3 c =
-    let a = c .before .before .before in
-    let e = a .before .before in
-    let s = e .before .before .before .before .args in
-    refuses _ _ _ _
-    (behind (roomed (s .out .now) (s .at)) (not-covered builtin (s .l) (recorded (s .r)) (ok (e .before)) (omega arith) _ (told a ∙ ap saysReading (c .before .answer .given .1))))
-
-returns-4 : tie.Need-returns-4
-returns-4 c =
     let d = c .before .before .before in
-    let k = d .before .before in
-    let e = k .before .before .before .before in
+    let e = d .before .before in
     let s = e .before .before .before .before .args in
     refuses _ _ _ _
-    (behind (roomed (s .out .now) (s .at)) (covered builtin (s .l) (recorded (s .r)) (ok (e .before)) (omega arith) _ (read k) (sym (d .date-digits .ensures) ∙ ap (λ a. given (bcd 4) (saysIndex a)) (c .before .date .given .1))))
+    (behind (roomed (s .out .now) (s .at)) (dated (s .l) (s .m) (few (e .before .before)) (ok e) (told d ∙ ap (λ a. given (bcd 4) (saysIndex a)) (c .before .date .given .1))))
 
 same-length : tie.Need-same-length
 same-length c = search needs
 
-returns-5 : tie.Need-returns-5
-returns-5 c =
+returns-4 : tie.Need-returns-4
+returns-4 c =
     let u = c .before .before .before in
     let b = u .before .before in
     let k = b .before .before in
     let d = k .before .before in
-    let a = d .before .before in
-    let e = a .before .before .before .before in
+    let e = d .before .before in
     let s = e .before .before .before .before .args in
-    let x = a .answer2 .given .0 .0 .second in
+    let x = s .m .second in
     let n = bcd 4 (k .date2 .given .0 .0) in
     let w = s .l .segments in
-    let t = s .r .ticks in
+    let t = s .m .ticks in
     let f : n ++ (bcd 3 (b .clock-digits .result) ++ bcd w (t / u .unit .result)) ≡ n ++ (clockText x ++ bcd w (partOf w t)) = ap (λ (y : List ℕ). n ++ (y ++ bcd w (t / u .unit .result))) (b .clock-digits .ensures) ∙ ap (λ (v : ℕ). n ++ (clockText x ++ bcd w (t / v))) (u .unit .ensures) in
     wrote-by
-    (behind (roomed (s .out .now) (s .at)) (covered builtin (s .l) (recorded (s .r)) (ok (e .before)) (omega arith) _ (read a) (sym (d .date-digits .ensures) ∙ ap (λ y. given (bcd 4) (saysIndex y)) (k .date2 .given .1)) ∙ ap done (sym f)))
+    (behind (roomed (s .out .now) (s .at)) (dated (s .l) (s .m) (few (e .before .before)) (ok e) (told d ∙ ap (λ y. given (bcd 4) (saysIndex y)) (k .date2 .given .1)) ∙ ap done (sym f)))
     (c .before .before .store .ensures)
 
 pub write-spec : {M : Type 1} → statement M
 write-spec =
     tie.close
     (tie.spec
-    valid-requires
     returns
+    valid-requires
     returns-2
-    reading-of-requires
-    enum-known-answer
-    enum-known-answer-2
     date-digits-requires
     enum-known-date
     enum-known-date-2
@@ -143,6 +121,5 @@ write-spec =
     div-store
     store-requires
     returns-3
-    returns-4
     same-length
-    returns-5)
+    returns-4)

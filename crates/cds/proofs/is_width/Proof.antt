@@ -1,4 +1,4 @@
--- `cds::is_width` meets its contract.
+-- `cds::is_width` meets its contract: its tests are the definition's.
 use mathlib.Core.Path.{refl}
 use Rattle.cds.specs.Cds.{isWidth}
 use Rattle.cds.proofs.is_width.Statement.{statement}

@@ -1,4 +1,4 @@
--- `cds::read` meets its contract.
+-- `cds::read` meets its contract: its tests are the rungs, in their order, and the three numbers lie within the width.
 use mathlib.Core.Path.{_≡_, sym, _∙_}
 use mathlib.Core.Bool.{true}
 use Prim.Native.Nat.{_+_, _≤_}
@@ -8,7 +8,6 @@ use borrow.Author.Tests.{not-true, not-false, leb-true, leb-false}
 use lib.ListN.{length}
 use mir.Syntax.{w64}
 use mir.Val.{toZ, ofZ}
-use Rattle.leap.specs.Builtin.{builtin}
 use Rattle.cds.specs.Cds.{isEpochDay, isWidth, isLayout}
 use Rattle.cds.specs.Inner.{Good}
 use Rattle.cds.proofs.Laws.{layout-good, count-lt, day-lt, field-none, field-epoch, field-short, field-is}
@@ -21,7 +20,7 @@ is-width-requires c κs = search needs
 returns : tie.Need-returns
 returns c =
     let a = c .before .before .before .args in
-    sym (field-none builtin (a .s .now) (a .at) (a .l) (sym (c .before .is-width .ensures) ∙ not-true _ (c .if1 .taken)))
+    sym (field-none (a .s .now) (a .at) (a .l) (sym (c .before .is-width .ensures) ∙ not-true _ (c .if1 .taken)))
 
 is-epoch-requires : tie.Need-is-epoch-requires
 is-epoch-requires c κs = search needs
@@ -42,7 +41,7 @@ epoch c = let l = begun c .args .l in let e : toZ w64 (ofZ w64 (l .epoch)) ≡ l
 returns-2 : tie.Need-returns-2
 returns-2 c =
     let a = begun (c .before) .args in
-    sym (field-epoch builtin (a .s .now) (a .at) (a .l) (wide (asked (c .before))) (epoch (c .before) ∙ not-true _ (c .if2 .taken)))
+    sym (field-epoch (a .s .now) (a .at) (a .l) (wide (asked (c .before))) (epoch (c .before) ∙ not-true _ (c .if2 .taken)))
 
 -- what a good layout is read for
 abbrev from : tie.Else2 → tie.Start
@@ -68,7 +67,7 @@ returns-3 : tie.Need-returns-3
 returns-3 c =
     let b = c .before .before in
     let a = from b .args in
-    sym (field-short builtin (a .s .now) (a .at) (a .l) (ok b) (leb-false _ _ (sym (c .before .fits2 .ensures) ∙ not-true _ (c .if3 .taken))))
+    sym (field-short (a .s .now) (a .at) (a .l) (ok b) (leb-false _ _ (sym (c .before .fits2 .ensures) ∙ not-true _ (c .if3 .taken))))
 
 room : (c : tie.Else3) → let a = from (c .before .before) .args in a .at + (a .l .day + 4 + a .l .part) ≤ length (a .s .now)
 room c = leb-true _ _ (sym (c .before .fits2 .ensures) ∙ not-false _ (c .if3 .left))
@@ -94,8 +93,8 @@ number-requires-3 c κs =
     let g = good (b .before .before) in
     (omega (arith, g .part), omega (arith, room b))
 
-moment-requires : tie.Need-moment-requires
-moment-requires c κs =
+timed-requires : tie.Need-timed-requires
+timed-requires c κs =
     let b = c .before .before .before in
     let a = from (b .before .before) .args in
     let g = good (b .before .before) in
@@ -106,8 +105,8 @@ returns-4 c =
     let n = c .before in
     let b = n .before .before .before in
     let a = from (b .before .before) .args in
-    c .moment .ensures
-    ∙ sym (field-is builtin (a .s .now) (a .at) (a .l) (ok (b .before .before)) _ _ _ (room b) (n .before .before .number .ensures) (n .before .number2 .ensures) (n .number3 .ensures))
+    c .timed .ensures
+    ∙ sym (field-is (a .s .now) (a .at) (a .l) (ok (b .before .before)) _ _ _ (room b) (n .before .before .number .ensures) (n .before .number2 .ensures) (n .number3 .ensures))
 
 pub read-spec : {M : Type 1} → statement M
 read-spec =
@@ -127,5 +126,5 @@ read-spec =
     add-number-2
     add-number-3
     number-requires-3
-    moment-requires
+    timed-requires
     returns-4)

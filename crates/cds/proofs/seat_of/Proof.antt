@@ -1,4 +1,4 @@
--- `cds::seat_of` meets its contract.
+-- `cds::seat_of` meets its contract: raised alike, the day less the epoch is the days between them.
 use mathlib.Core.Path.{_≡_, ap, _∙_}
 use Prim.Native.Nat.{_+_, _-_, _^_}
 use native.Mathlib.Omega.{arith}

@@ -1,4 +1,4 @@
--- `cds::size` meets its contract.
+-- `cds::size` meets its contract: the octets of a layout are few, so that their sum fits.
 use mathlib.Core.Path.{_≡_, sym, _∙_}
 use mathlib.Core.Bool.{true}
 use native.Mathlib.Omega.{arith}

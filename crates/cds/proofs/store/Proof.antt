@@ -1,4 +1,4 @@
--- `cds::store` meets its contract.
+-- `cds::store` meets its contract: where the whole has room each number has, and the three texts stand one after another.
 use mathlib.Core.Path.{sym, _∙_}
 use Prim.Native.Nat.{_+_, _≤_}
 use native.Mathlib.Omega.{arith}

@@ -1,6 +1,8 @@
+-- `codes::field` meets its contract, code by code: what the code reads, by the table where it is one of UTC, and where it ends.
 use borrow.Author.Needs.{needs}
 use mathlib.Core.Path.{_≡_, refl, sym, ap, _∙_}
 use native.Mathlib.Omega.{arith}
+use Rattle.leap.specs.Builtin.{builtin}
 use Rattle.codes.specs.declared.pfield.Layout.the-variants.{Cuc, Cds, Ccs}
 use Rattle.codes.specs.Reading.{scanIn}
 use Rattle.codes.proofs.Fields.{width-low}
@@ -28,11 +30,14 @@ enum-known-l-2 c = search needs
 read-requires-2 : tie.Need-read-requires-2
 read-requires-2 c κs = search needs
 
+timed-requires : tie.Need-timed-requires
+timed-requires c κs = search needs
+
 size-requires-2 : tie.Need-size-requires-2
 size-requires-2 c κs = search needs
 
 add-ended-2 : tie.Need-add-ended-2
-add-ended-2 c = omega (arith, c .size2 .ensures, width-low (Cds (c .before .before .before .l2 .given .0 .0)))
+add-ended-2 c = omega (arith, c .size2 .ensures, width-low (Cds (c .before .before .before .before .l2 .given .0 .0)))
 
 ended-requires-2 : tie.Need-ended-requires-2
 ended-requires-2 c κs = search needs
@@ -43,11 +48,14 @@ enum-known-l-3 c = search needs
 read-requires-3 : tie.Need-read-requires-3
 read-requires-3 c κs = search needs
 
+timed-requires-2 : tie.Need-timed-requires-2
+timed-requires-2 c κs = search needs
+
 size-requires-3 : tie.Need-size-requires-3
 size-requires-3 c κs = search needs
 
 add-ended-3 : tie.Need-add-ended-3
-add-ended-3 c = omega (arith, c .size3 .ensures, width-low (Ccs (c .before .before .before .l3 .given .0 .0)))
+add-ended-3 c = omega (arith, c .size3 .ensures, width-low (Ccs (c .before .before .before .before .l3 .given .0 .0)))
 
 ended-requires-3 : tie.Need-ended-requires-3
 ended-requires-3 c κs = search needs
@@ -58,23 +66,23 @@ returns c =
     let z = c .before in
     let k = z .before .before .before in
     let s = k .before .before .before .args in
-    c .ended .ensures ∙ sym (ap (scanIn (s .s .now) (s .at)) (k .l .given .1) ∙ rw (sym (z .size .ensures), sym (z .before .read .ensures)))
+    c .ended .ensures ∙ sym (ap (scanIn builtin (s .s .now) (s .at)) (k .l .given .1) ∙ rw (sym (z .size .ensures), sym (z .before .read .ensures)))
 
 returns-2 : tie.Need-returns-2
 unfolding scanIn
 returns-2 c =
     let z = c .before in
-    let k = z .before .before .before in
+    let k = z .before .before .before .before in
     let s = k .before .before .before .args in
-    c .ended2 .ensures ∙ sym (ap (scanIn (s .s .now) (s .at)) (k .l2 .given .1) ∙ rw (sym (z .size2 .ensures), sym (z .before .read2 .ensures)))
+    c .ended2 .ensures ∙ sym (ap (scanIn builtin (s .s .now) (s .at)) (k .l2 .given .1) ∙ rw (sym (z .size2 .ensures), sym (z .before .before .read2 .ensures), sym (z .before .timed .ensures)))
 
 returns-3 : tie.Need-returns-3
 unfolding scanIn
 returns-3 c =
     let z = c .before in
-    let k = z .before .before .before in
+    let k = z .before .before .before .before in
     let s = k .before .before .before .args in
-    c .ended3 .ensures ∙ sym (ap (scanIn (s .s .now) (s .at)) (k .l3 .given .1) ∙ rw (sym (z .size3 .ensures), sym (z .before .read3 .ensures)))
+    c .ended3 .ensures ∙ sym (ap (scanIn builtin (s .s .now) (s .at)) (k .l3 .given .1) ∙ rw (sym (z .size3 .ensures), sym (z .before .before .read3 .ensures), sym (z .before .timed2 .ensures)))
 
 pub field-spec : {M : Type 1} → statement M
 field-spec =
@@ -87,11 +95,13 @@ field-spec =
     ended-requires
     enum-known-l-2
     read-requires-2
+    timed-requires
     size-requires-2
     add-ended-2
     ended-requires-2
     enum-known-l-3
     read-requires-3
+    timed-requires-2
     size-requires-3
     add-ended-3
     ended-requires-3

@@ -44,6 +44,7 @@ use denote.Triple.Walked.{says, Stays, stay-none, stay-none-slice, walkOf, goes-
 use denote.Exit.{yes}
 use denote.Triple.Clauses.{ensured, lasts}
 use Rattle.base.specs.Outcome.{Outcome}
+use Rattle.leap.specs.Builtin.{builtin}
 use Rattle.codes.specs.Reading.{Scanned, scanOf, usedOf}
 use Rattle.codes.specs.Answers.{saysReading}
 use Rattle.codes.specs.declared.Taken.{Taken}
@@ -98,7 +99,7 @@ module _ {M : Type 1} (𝓤 : URA M) (H : Heap 𝓤) (A : Atoms 𝓤) (W : Given
   vals = (v ∷ [], (pv ∷ [], (ev ∷ [], tt)))
 
   abbrev found : Outcome Scanned
-  found = scanOf (now s) p e
+  found = scanOf builtin (now s) p e
 
   abbrev Post : Val → SProp 𝓤
   Post = walkOf 𝓤 H A read.ended stayed (read.clauses 𝓤 H A mem run) .post (((κ, tt), (q, tt), tt, (s, (p, (e, tt))), vals), tt)

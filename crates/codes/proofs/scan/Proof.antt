@@ -8,6 +8,7 @@ use borrow.Author.Tests.{le-leb, lt-leb}
 use lib.ListN.{length}
 use Rattle.base.proofs.Ladders.{need-yes, need-no}
 use Rattle.base.proofs.Signed.{back}
+use Rattle.leap.specs.Builtin.{builtin}
 use Rattle.codes.specs.declared.Preamble.{Preamble}
 use Rattle.codes.specs.Reading.{scanAt, scanOf}
 use Rattle.codes.proofs.scan.Statement.{statement}
@@ -26,7 +27,7 @@ returns : tie.Need-returns
 unfolding scanOf
 returns c =
     let s = c .before .before .before .before .args in
-    sym (ap (λ (p : Preamble). scanOf (s .s .now) p (s .epoch)) (c .before .enum-told .given .1) ∙ need-no 1 _ (lt-leb 1 (length (s .s .now)) (omega arith)))
+    sym (ap (λ (p : Preamble). scanOf builtin (s .s .now) p (s .epoch)) (c .before .enum-told .given .1) ∙ need-no 1 _ (lt-leb 1 (length (s .s .now)) (omega arith)))
 
 shared-slice-read-o : tie.Need-shared-slice-read-o
 shared-slice-read-o c = search needs
@@ -39,7 +40,7 @@ unfolding scanOf
 returns-2 c =
     let w = c .before .before in
     let s = w .before .before .before in
-    rw (back w64 (s .args .epoch) (s .fits .epoch)) at (c .scan-at .ensures) ∙ sym (ap (λ (p : Preamble). scanOf (s .args .s .now) p (s .args .epoch)) (w .p .given .1))
+    rw (back w64 (s .args .epoch) (s .fits .epoch)) at (c .scan-at .ensures) ∙ sym (ap (λ (p : Preamble). scanOf builtin (s .args .s .now) p (s .args .epoch)) (w .p .given .1))
 
 returns-3 : tie.Need-returns-3
 unfolding scanOf
@@ -47,7 +48,7 @@ returns-3 c =
     let w = c .before .before .before in
     let s = w .before .before .before in
     rw (back w64 (s .args .epoch) (s .fits .epoch)) at (c .scan-at2 .ensures)
-    ∙ sym (ap (λ (p : Preamble). scanOf (s .args .s .now) p (s .args .epoch)) (w .enum-told .given .1) ∙ need-yes 1 _ (le-leb 1 (length (s .args .s .now)) (omega arith)))
+    ∙ sym (ap (λ (p : Preamble). scanOf builtin (s .args .s .now) p (s .args .epoch)) (w .enum-told .given .1) ∙ need-yes 1 _ (le-leb 1 (length (s .args .s .now)) (omega arith)))
 
 pub scan-spec : {M : Type 1} → statement M
 scan-spec =

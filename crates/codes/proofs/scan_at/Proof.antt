@@ -5,6 +5,7 @@ use borrow.Author.Needs.{needs}
 use mir.Syntax.{w64}
 use Rattle.base.specs.Outcome.{Outcome, andThen}
 use Rattle.base.proofs.Signed.{back}
+use Rattle.leap.specs.Builtin.{builtin}
 use Rattle.codes.specs.declared.pfield.Layout.{Layout}
 use Rattle.codes.specs.PField.{laid}
 use Rattle.codes.specs.Reading.{scanIn, scanAt}
@@ -33,14 +34,14 @@ unfolding scanAt
 returns c =
     let w = c .before in
     let s = w .before .before .before .before .args in
-    sym (ap (λ (x : Outcome Layout). andThen x (scanIn (s .s .now) (s .at))) (told (w .before .before) ∙ ap saysLayout (w .why .given .1)))
+    sym (ap (λ (x : Outcome Layout). andThen x (scanIn builtin (s .s .now) (s .at))) (told (w .before .before) ∙ ap saysLayout (w .why .given .1)))
 
 returns-2 : tie.Need-returns-2
 unfolding scanAt
 returns-2 c =
     let w = c .before .before in
     let s = w .before .before .before .before .args in
-    c .field .ensures ∙ sym (ap (λ (x : Outcome Layout). andThen x (scanIn (s .s .now) (s .at))) (told (w .before .before) ∙ ap saysLayout (w .l .given .1)))
+    c .field .ensures ∙ sym (ap (λ (x : Outcome Layout). andThen x (scanIn builtin (s .s .now) (s .at))) (told (w .before .before) ∙ ap saysLayout (w .l .given .1)))
 
 pub scan-at-spec : {M : Type 1} → statement M
 scan-at-spec =

@@ -15,6 +15,7 @@ use Rattle.scale.specs.Answers.{recorded}
 use Rattle.octets.specs.Writes.{Wrote}
 use Rattle.octets.specs.declared.Written.{Written}
 use Rattle.octets.proofs.Writes.{refuses}
+use Rattle.leap.specs.Builtin.{builtin}
 use Rattle.codes.specs.declared.pfield.Layout.{Layout}
 use Rattle.codes.specs.declared.pfield.LayoutAnswer.{LayoutAnswer}
 use Rattle.codes.specs.PField.{laid}
@@ -24,9 +25,9 @@ use Rattle.codes.proofs.write_binary.Statement.{statement}
 use Rattle.codes.proofs.write_binary.Tie as tie
 
 -- past the record, what is left goes by the layout
-by-layout : (r : Time) (o : ℕ) (e : ℤ) (front : Bool) (d : List ℕ) (x : Outcome Layout) → isRecord r ≡ true → laid o e ≡ x → writeOf r o e front d ≡ andThen x (λ l. andThen (bytesOf l r) (fronted front o d))
+by-layout : (r : Time) (o : ℕ) (e : ℤ) (front : Bool) (d : List ℕ) (x : Outcome Layout) → isRecord r ≡ true → laid o e ≡ x → writeOf builtin r o e front d ≡ andThen x (λ l. andThen (bytesOf builtin l r) (fronted front o d))
 unfolding writeOf
-by-layout r o e front d x v p = need-yes 7 _ v ∙ ap (λ (y : Outcome Layout). andThen y (λ l. andThen (bytesOf l r) (fronted front o d))) p
+by-layout r o e front d x v p = need-yes 7 _ v ∙ ap (λ (y : Outcome Layout). andThen y (λ l. andThen (bytesOf builtin l r) (fronted front o d))) p
 
 valid-requires : tie.Need-valid-requires
 valid-requires c κs = search needs
@@ -38,7 +39,7 @@ returns c = refuses _ _ 0 _ (need-no 7 _ (sym (c .before .valid .ensures) ∙ no
 lay-requires : tie.Need-lay-requires
 lay-requires c κs = search needs
 
-told : (c : tie.After-lay) → writeOf (recorded (c .before .before .before .before .args .r)) (c .before .before .before .before .args .p) (c .before .before .before .before .args .epoch) (c .before .before .before .before .args .front) (c .before .before .before .before .args .out .now) ≡ andThen (saysLayout (c .lay .result)) (λ l. andThen (bytesOf l (recorded (c .before .before .before .before .args .r))) (fronted (c .before .before .before .before .args .front) (c .before .before .before .before .args .p) (c .before .before .before .before .args .out .now)))
+told : (c : tie.After-lay) → writeOf builtin (recorded (c .before .before .before .before .args .r)) (c .before .before .before .before .args .p) (c .before .before .before .before .args .epoch) (c .before .before .before .before .args .front) (c .before .before .before .before .args .out .now) ≡ andThen (saysLayout (c .lay .result)) (λ l. andThen (bytesOf builtin l (recorded (c .before .before .before .before .args .r))) (fronted (c .before .before .before .before .args .front) (c .before .before .before .before .args .p) (c .before .before .before .before .args .out .now)))
 told c =
     let s = c .before .before .before .before in
     by-layout (recorded (s .args .r)) (s .args .p) (s .args .epoch) (s .args .front) (s .args .out .now) (saysLayout (c .lay .result)) (sym (c .before .before .valid .ensures) ∙ not-false _ (c .before .if1 .left))
@@ -51,10 +52,10 @@ enum-known-l : tie.Need-enum-known-l
 enum-known-l c = search needs
 
 -- .. at the layout that was found
-found : (c : tie.After-l) (b : Bool) → c .before .before .before .before .before .before .args .front ≡ b → writeOf (recorded (c .before .before .before .before .before .before .args .r)) (c .before .before .before .before .before .before .args .p) (c .before .before .before .before .before .before .args .epoch) (c .before .before .before .before .before .before .args .front) (c .before .before .before .before .before .before .args .out .now) ≡ andThen (bytesOf (c .l .given .0 .0) (recorded (c .before .before .before .before .before .before .args .r))) (fronted b (c .before .before .before .before .before .before .args .p) (c .before .before .before .before .before .before .args .out .now))
+found : (c : tie.After-l) (b : Bool) → c .before .before .before .before .before .before .args .front ≡ b → writeOf builtin (recorded (c .before .before .before .before .before .before .args .r)) (c .before .before .before .before .before .before .args .p) (c .before .before .before .before .before .before .args .epoch) (c .before .before .before .before .before .before .args .front) (c .before .before .before .before .before .before .args .out .now) ≡ andThen (bytesOf builtin (c .l .given .0 .0) (recorded (c .before .before .before .before .before .before .args .r))) (fronted b (c .before .before .before .before .before .before .args .p) (c .before .before .before .before .before .before .args .out .now))
 found c b f =
     let s = c .before .before .before .before .before .before .args in
-    told (c .before .before) ∙ ap (λ (x : Outcome Layout). andThen x (λ l. andThen (bytesOf l (recorded (s .r))) (fronted (s .front) (s .p) (s .out .now)))) (ap saysLayout (c .l .given .1)) ∙ rw f
+    told (c .before .before) ∙ ap (λ (x : Outcome Layout). andThen x (λ l. andThen (bytesOf builtin l (recorded (s .r))) (fronted (s .front) (s .p) (s .out .now)))) (ap saysLayout (c .l .given .1)) ∙ rw f
 
 put-fronted-requires : tie.Need-put-fronted-requires
 put-fronted-requires c κs = search needs
@@ -74,7 +75,7 @@ put-requires c κs = search needs
 returns-3 : tie.Need-returns-3
 returns-3 c =
     let s = c .before .before .before .before .before .before .before .args in
-    refuses _ _ 0 _ (told (c .before .before .before) ∙ ap (λ (x : LayoutAnswer). andThen (saysLayout x) (λ l. andThen (bytesOf l (recorded (s .r))) (fronted (s .front) (s .p) (s .out .now)))) (c .before .why .given .1))
+    refuses _ _ 0 _ (told (c .before .before .before) ∙ ap (λ (x : LayoutAnswer). andThen (saysLayout x) (λ l. andThen (bytesOf builtin l (recorded (s .r))) (fronted (s .front) (s .p) (s .out .now)))) (c .before .why .given .1))
 
 same-length-2 : tie.Need-same-length-2
 same-length-2 c = search needs

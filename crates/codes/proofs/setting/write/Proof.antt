@@ -5,6 +5,7 @@ use mir.Syntax.{w64}
 use mir.Val.{toZ, ofZ}
 use Rattle.scale.specs.Answers.{recorded}
 use Rattle.octets.specs.Writes.{Wrote}
+use Rattle.leap.specs.Builtin.{builtin}
 use Rattle.codes.specs.Setting.{written}
 use Rattle.codes.specs.declared.setting.Setting.{Setting}
 use Rattle.codes.proofs.setting.write.Statement.{statement}
@@ -32,7 +33,7 @@ returns c =
     let s = k .before .before .before .args in
     let x = k .setting .given .0 .1 .0 in
     let e : toZ w64 (ofZ w64 x) ≡ x = search needs in
-    subst (λ (x : Setting). Wrote (written (recorded (s .r)) x (s .out .now)) 0 (s .out .now) (w .write-binary .last .1 .1 .1 .1 .0) (w .write-binary .result)) (sym (k .setting .given .1)) (rw e at (w .write-binary .ensures))
+    subst (λ (x : Setting). Wrote (written builtin (recorded (s .r)) x (s .out .now)) 0 (s .out .now) (w .write-binary .last .1 .1 .1 .1 .0) (w .write-binary .result)) (sym (k .setting .given .1)) (rw e at (w .write-binary .ensures))
 
 same-length-2 : tie.Need-same-length-2
 same-length-2 c = search needs
@@ -42,7 +43,7 @@ returns-2 c =
     let w = c .before .before in
     let k = w .before .before .before in
     let s = k .before .before .before .args in
-    subst (λ (x : Setting). Wrote (written (recorded (s .r)) x (s .out .now)) 0 (s .out .now) (w .write .last .1 .1 .0) (w .write .result)) (sym (k .setting2 .given .1)) (w .write .ensures)
+    subst (λ (x : Setting). Wrote (written builtin (recorded (s .r)) x (s .out .now)) 0 (s .out .now) (w .write .last .1 .1 .0) (w .write .result)) (sym (k .setting2 .given .1)) (w .write .ensures)
 
 pub write-spec : {M : Type 1} → statement M
 write-spec =
