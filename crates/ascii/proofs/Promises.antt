@@ -1,4 +1,4 @@
--- What spans two calls, as theorems about the definitions that the contracts cite. The records above lift them by a table.
+-- What spans two calls, as theorems about the definitions that the contracts cite: of moments, before any table.
 use mathlib.Core.Path.{_≡_, refl, sym, ap, _∙_}
 use mathlib.Core.Bool.{true, false}
 use mathlib.Core.List.{List}

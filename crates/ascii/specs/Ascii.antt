@@ -102,7 +102,7 @@ codeText l day second f =
 abbrev pub partOf : ℕ → ℕ → ℕ
 partOf d k = k / (perSecond / 10 ^ d)
 
--- "then .. 3 .. target 7": digits over 12 are 3; a writer given a moment that is none refuses 7; no call shows it. A day outside the calendar is 7 too
+-- "then 2, 3 .. target 7": digits over 12 are 3, and a day outside the calendar is 7. A writer given a moment that is none refuses 7; no call shows it
 unfoldable pub bytesOf : Layout → Moment → Outcome (List ℕ)
 bytesOf l m =
     need (isLayout l) 3

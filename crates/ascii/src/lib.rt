@@ -261,22 +261,18 @@ fn unit(d: usize) -> u64
 pub fn write(m: Moment, l: Layout, out: &mut [u8], at: usize) -> Written
     ensures { λ a. ⌜ Wrote (andThen (bytesOf l m) (roomed (now (out .entry)) at)) at (now (out .entry)) (now (out .exit)) a ⌝ }
 {
-    let day = m.day;
-    let second = m.second;
-    let ticks = m.ticks;
-    let digits = l.digits;
     if !is_layout(l) {
         return Written::Refused(Refusal::Unsupported);
     }
     if !m.valid() {
         return Written::Refused(Refusal::Range);
     }
-    let answer = calendar::index_of_day(day);
+    let answer = calendar::index_of_day(m.day);
     match answer {
         IndexAnswer::Refused(why) => Written::Refused(why),
         IndexAnswer::Done(index) => {
-            let part = part_of(digits, ticks);
-            store(out, at, l, index, second, part)
+            let part = part_of(l.digits, m.ticks);
+            store(out, at, l, index, m.second, part)
         }
     }
 }

@@ -152,6 +152,13 @@ module _ (t : Table) (g : good t ≡ true) where
       ∙ ap (λ (x : Outcome ℕ). andThen x (λ n. secondOf t n (r .second))) (raise-at dayRaise (r .day) (loweredBy dayRaise (r .day)) (lower-is dayRaise (r .day)))
       ∙ w .back)
 
+  -- a day's second, by its index
+  pub utc-index : (n x : ℕ) → x ≤ 86400 → secondOfUtc t (loweredBy dayRaise n) x ≡ secondOf t n x
+  unfolding secondOfUtc
+  utc-index n x h =
+      need-yes 4 _ (le-leb x 86400 h)
+      ∙ ap (λ (o : Outcome ℕ). andThen o (λ n. secondOf t n x)) (raise-at dayRaise n (loweredBy dayRaise n) (lower-is dayRaise n))
+
   pub utc-low : (z : ℤ) (u : Utc) → utcOfSecond t z ≡ done u → u .second ≤ 86400
   unfolding utcOfSecond
   utc-low z u e = let (r, (f, i)) = given-done utc (readingOf t z) u e in rw (← i) (reading-back z r f .low)

@@ -73,6 +73,8 @@ pub const FIRST_SECOND: i64 = 441763210;
 
 pub const LAST_SECOND: i64 = 2145916836;
 
+pub const PAST_SECOND: i64 = 2145916837;
+
 const FIRST_INDEX: u64 = 719892;
 
 const PAST_INDEX: u64 = 739616;

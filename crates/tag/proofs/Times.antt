@@ -18,7 +18,8 @@ use Rattle.octets.specs.declared.Counted.the-variants.{Done, Bad, Out}
 use Rattle.octets.proofs.Places.{digit-rule}
 use Rattle.octets.proofs.Counts.{told, told-short, read-lt}
 use Rattle.ascii.specs.Ascii.{numberAt, ticksOf}
-use Rattle.ascii.proofs.Reading.{power-is, ticks-lt}
+use Rattle.scale.proofs.Fractions.{ticks-lt}
+use Rattle.ascii.proofs.Reading.{power-is, grain}
 use Rattle.tag.specs.Forms.{free, lowest, at, Form, Forms, shapeOf, find}
 use Rattle.tag.specs.Tags.{fractionAs, until, Timed, timed, clockAs, unzoned, timeIn}
 use Rattle.tag.specs.Inner.{placeOf}
@@ -59,7 +60,7 @@ module _ (s : List ℕ) (d : ℕ) (h : 1 ≤ length s) (e : d ≡ length s - 1) 
 
   module _ (n p : ℕ) (l : 1 ≤ d) (u : d ≤ 12) (b : decimalAt s 1 d ≡ Done n) (f : p ≡ powerIn 10 20 d) where
     pub part-lt : n * (perSecond / p) < perSecond
-    part-lt = rw (power-is d p u f) (ticks-lt d n u (read-lt (told 10 digitValue digitGood 19 s 1 d (Done n) b) digit-rule))
+    part-lt = rw (power-is d p u f) (ticks-lt (grain d u) n (read-lt (told 10 digitValue digitGood 19 s 1 d (Done n) b) digit-rule))
 
     pub part-done : done (n * (perSecond / p)) ≡ fractionAs (at 0) s
     part-done =

@@ -6,6 +6,8 @@ use Prim.Native.Nat.{ℕ, zero, suc, _+_, _-_, _≤_, _<_}
 use lib.ListN.{length, take, drop}
 use Rattle.base.specs.Outcome.{done, refused}
 use Rattle.scale.specs.Time.{Time}
+use Rattle.leap.specs.Table.{Table}
+use Rattle.utc.specs.Reckoning.{readBy}
 use Rattle.ascii.specs.Quoted.{bytes}
 use Rattle.ascii.specs.Shapes.{shaped}
 use Rattle.ascii.specs.Ascii.{frontOf, layoutOf, zoneText, text}
@@ -97,10 +99,10 @@ pub record Full (tag code : List ℕ) : Type 0 where
   pub full : shaped code ≡ true
   pub short : Shortening code tag
 
--- the naming rule: some full code of which the tag is a shortening reads to the moment
-abbrev pub Names : List ℕ → Time → Type 0
-Names tag m = (code : List ℕ) × (Full tag code × (text code ≡ done m))
+-- the naming rule: some full code of which the tag is a shortening reads, by the table, to the moment
+abbrev pub Names : Table → List ℕ → Time → Type 0
+Names t tag m = (code : List ℕ) × (Full tag code × (readBy t (text code) ≡ done m))
 
--- no full code of which the tag is a shortening reads to anything but 4
+-- no full code of which the tag is a shortening reads to anything but 4, whatever the table
 abbrev pub Nameless : List ℕ → Type 0
 Nameless tag = (code : List ℕ) → Full tag code → text code ≡ refused 4

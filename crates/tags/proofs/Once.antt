@@ -12,6 +12,7 @@ use Rattle.window.proofs.Once.{lists-once}
 use Rattle.codes.specs.declared.Preamble.{Preamble}
 use Rattle.tags.specs.CucTag.{Periodic, listCuc}
 use Rattle.tags.specs.AsciiTag.{listAscii}
+use Rattle.leap.specs.Table.{Table}
 use Rattle.tags.specs.Ends.{Stretch, saysEnds}
 use Rattle.tags.specs.Inner.{saysPeriodic}
 use Rattle.tags.specs.declared.ends.Ends as E
@@ -20,8 +21,8 @@ use Rattle.tags.specs.declared.periodic.Periodic as P
 pub list-cuc-once : (s : List ℕ) (p : Preamble) (e : ℤ) (from to : Time) (entry exit exit' : List ℤ) (r r' : Listing) → Lists (listCuc s p e from to) entry exit r → Lists (listCuc s p e from to) entry exit' r' → (r ≡ r') × (exit ≡ exit')
 list-cuc-once s p e from to = lists-once (listCuc s p e from to)
 
-pub list-ascii-once : (s : List ℕ) (from to : Time) (entry exit exit' : List ℤ) (r r' : Listing) → Lists (listAscii s from to) entry exit r → Lists (listAscii s from to) entry exit' r' → (r ≡ r') × (exit ≡ exit')
-list-ascii-once s from to = lists-once (listAscii s from to)
+pub list-ascii-once : (t : Table) (s : List ℕ) (from to : Time) (entry exit exit' : List ℤ) (r r' : Listing) → Lists (listAscii t s from to) entry exit r → Lists (listAscii t s from to) entry exit' r' → (r ≡ r') × (exit ≡ exit')
+list-ascii-once t s from to = lists-once (listAscii t s from to)
 
 pub ends-once : (o : Outcome Stretch) (a b : E.Ends) → saysEnds a ≡ o → saysEnds b ≡ o → a ≡ b
 ends-once = once saysEnds back back-is

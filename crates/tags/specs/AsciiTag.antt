@@ -7,7 +7,6 @@ use Rattle.base.specs.Outcome.{Outcome, done, need, andThen}
 use Rattle.base.specs.Parts.{loweredBy}
 use Rattle.scale.specs.Time.{Time, earlier}
 use Rattle.leap.specs.Table.{Table, start}
-use Rattle.leap.specs.Builtin.{builtin}
 use Rattle.leap.specs.Utc.{secondRaise}
 use Rattle.window.specs.Window.{Named}
 use Rattle.seek.specs.declared.Tag.{Tag}
@@ -27,5 +26,5 @@ unfoldable pub listWanted : Table → Time → Time → Tag → Outcome (Named �
 listWanted t from to g = windowed from to (need (covered t from to) 5 (done (momentsIn secondRaise (names t g) (g .ticks) from to)))
 
 -- "the tag as in reading up to 4"
-unfoldable pub listAscii : List ℕ → Time → Time → Outcome (Named ℤ)
-listAscii s from to = andThen (tagOf s) (listWanted builtin from to)
+unfoldable pub listAscii : Table → List ℕ → Time → Time → Outcome (Named ℤ)
+listAscii t s from to = andThen (tagOf s) (listWanted t from to)

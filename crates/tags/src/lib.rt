@@ -57,7 +57,7 @@ fn list_periodic(first: Record, period: u64, from: Record, to: Record, out: &mut
 // Lists what a shortened ASCII tag names from `from` on and before `to`: its seconds into `out`, their one tick count in
 // the answer.
 pub fn list_ascii(tag: &[u8], from: Record, to: Record, out: &mut [i64]) -> Listing
-    ensures { λ r. ⌜ Lists (listAscii (now (tag .entry)) (recorded from) (recorded to)) (now (out .entry)) (now (out .exit)) r ⌝ }
+    ensures { λ r. ⌜ Lists (listAscii builtin (now (tag .entry)) (recorded from) (recorded to)) (now (out .entry)) (now (out .exit)) r ⌝ }
 {
     match tag::read(tag) {
         TagAnswer::Refused(why) => Listing::Refused(why),
@@ -89,7 +89,7 @@ fn covered(from: Record, to: Record) -> bool
         ticks: 0,
     };
     let past = Record {
-        sec: leap::LAST_SECOND + 1,
+        sec: leap::PAST_SECOND,
         ticks: 0,
     };
     !scale::before(from, first) & !scale::before(past, to)

@@ -1,4 +1,4 @@
--- `ascii::clock_at` meets its contract.
+-- `ascii::clock_at` meets its contract: a field that is no number is read as 100, which no clock shows.
 use mathlib.Core.Path.{_∙_}
 use borrow.Author.Needs.{needs}
 use Rattle.ascii.proofs.Reading.{clock-read}

@@ -1,4 +1,4 @@
--- `ascii::day_at` meets its contract.
+-- `ascii::day_at` meets its contract: a field that is no number is read as one past all its numbers, which no date has.
 use mathlib.Core.Path.{ap, _∙_}
 use borrow.Author.Needs.{needs}
 use Rattle.base.specs.Outcome.{given}

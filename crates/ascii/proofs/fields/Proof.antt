@@ -1,4 +1,4 @@
--- `ascii::fields` meets its contract.
+-- `ascii::fields` meets its contract: a part that breaks its rule is 4, whatever another breaks, and a fraction that is no number shows as a whole second.
 use mathlib.Core.Path.{_≡_, sym, ap, _∙_}
 use mathlib.Core.List.{List}
 use Prim.Native.Nat.{ℕ, _+_, _-_}

@@ -1,4 +1,4 @@
--- `ascii::fraction` meets its contract.
+-- `ascii::fraction` meets its contract: one that is no number is read as 10^d, and its ticks are a second.
 use native.Mathlib.Omega.{arith}
 use borrow.Author.Needs.{needs}
 use Rattle.ascii.proofs.Reading.{no-ticks, ticks-read, ticks-fit}

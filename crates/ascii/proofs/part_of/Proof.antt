@@ -1,4 +1,4 @@
--- `ascii::part_of` meets its contract.
+-- `ascii::part_of` meets its contract: a thousand millionths are a thousandth.
 use native.Mathlib.Omega.{arith}
 use borrow.Author.Needs.{needs}
 use Rattle.ascii.proofs.part_of.Statement.{statement}

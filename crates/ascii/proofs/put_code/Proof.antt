@@ -1,4 +1,4 @@
--- `ascii::put_code` meets its contract.
+-- `ascii::put_code` meets its contract: four texts, each put where the one before it ends.
 use native.Mathlib.Omega.{arith}
 use borrow.Author.Needs.{needs}
 use Rattle.ascii.proofs.Sizes.{width-of, front-in}

@@ -1,4 +1,4 @@
--- `ascii::size` meets its contract.
+-- `ascii::size` meets its contract: the sum of its parts, where the layout is one.
 use mathlib.Core.Path.{sym, _∙_}
 use Prim.Native.Nat.{_≤_}
 use borrow.Author.Tests.{leb-true, leb-false, not-true, not-false}

@@ -3,6 +3,7 @@ use mathlib.Core.Path.{_≡_, sym, ap, _∙_}
 use mathlib.Core.Bool.{true}
 use mathlib.Core.List.{List}
 use Prim.Native.Nat.{ℕ}
+use native.Mathlib.Omega.{arith}
 use mir.Syntax.{w64}
 use mir.Val.{toZ, ofZ}
 use borrow.Author.Tests.{leb-true, not-true, not-false}
@@ -21,10 +22,10 @@ use Rattle.ascii.proofs.write.Statement.{statement}
 use Rattle.ascii.proofs.write.Tie as tie
 
 -- what the tests told
-laid : (c : tie.Else1) → isLayout (c .before .before .before .before .args .l) ≡ true
+laid : (c : tie.Else1) → isLayout (c .before .before .before .args .l) ≡ true
 laid c = sym (c .before .is-layout .ensures) ∙ not-false _ (c .if1 .left)
 
-valid : (c : tie.Else2) → isMoment (c .before .before .before .before .before .before .args .m) ≡ true
+valid : (c : tie.Else2) → isMoment (c .before .before .before .before .before .args .m) ≡ true
 valid c = sym (c .before .valid .ensures) ∙ not-false _ (c .if2 .left)
 
 -- and the calendar of the moment's day
@@ -46,7 +47,7 @@ is-layout-requires c κs = search needs
 
 returns : tie.Need-returns
 returns c =
-    let a = c .before .before .before .before .args in
+    let a = c .before .before .before .args in
     refuses Unsupported _ (a .at) (a .out .now) (on _ (bytes-none (a .l) (a .m) (sym (c .before .is-layout .ensures) ∙ not-true _ (c .if1 .taken))))
 
 valid-requires : tie.Need-valid-requires
@@ -55,7 +56,7 @@ valid-requires c κs = search needs
 returns-2 : tie.Need-returns-2
 returns-2 c =
     let e = c .before .before in
-    let a = e .before .before .before .before .args in
+    let a = e .before .before .before .args in
     refuses Range _ (a .at) (a .out .now) (on _ (bytes-invalid (a .l) (a .m) (laid e) (sym (c .before .valid .ensures) ∙ not-true _ (c .if2 .taken))))
 
 index-of-day-requires : tie.Need-index-of-day-requires
@@ -69,22 +70,22 @@ enum-known-answer-2 c = search needs
 
 part-of-requires : tie.Need-part-of-requires
 part-of-requires c κs =
-    let v = c .before .before .before .before in
-    let a = v .before .before .before .before .before .before .args in
+    let v = c .before .before .before .before .before in
+    let a = v .before .before .before .before .before .args in
     (leb-true (a .l .digits) 12 (laid (v .before .before)), moment-parts (a .m) (valid v) .1)
 
 store-requires : tie.Need-store-requires
 store-requires c κs =
     let k = c .before .before .before in
-    let v = k .before .before .before in
-    let a = v .before .before .before .before .before .before .args in
-    (index-high (a .m .day) (k .answer2 .given .0 .0) (found k), moment-parts (a .m) (valid v) .0, leb-true (a .l .digits) 12 (laid (v .before .before)))
+    let v = k .before .before .before .before in
+    let a = v .before .before .before .before .before .args in
+    (omega (arith, index-high (a .m .day) (k .answer2 .given .0 .0) (found k)), omega (arith, moment-parts (a .m) (valid v) .0), leb-true (a .l .digits) 12 (laid (v .before .before)))
 
 returns-3 : tie.Need-returns-3
 returns-3 c =
     let t = c .before .before .before in
-    let v = t .before in
-    let a = v .before .before .before .before .before .before .args in
+    let v = t .before .before in
+    let a = v .before .before .before .before .before .args in
     refuses _ _ (a .at) (a .out .now) (on _ (bytes-by (a .l) (a .m) (laid (v .before .before)) (valid v) _ (told t ∙ ap saysIndex (c .before .answer .given .1))))
 
 same-length : tie.Need-same-length
@@ -95,8 +96,8 @@ returns-4 c =
     let s = c .before .before in
     let p = s .before .before in
     let k = p .before .before in
-    let v = k .before .before .before in
-    let a = v .before .before .before .before .before .before .args in
+    let v = k .before .before .before .before in
+    let a = v .before .before .before .before .before .args in
     rw (on (roomed (a .out .now) (a .at)) (bytes-by (a .l) (a .m) (laid (v .before .before)) (valid v) (done (k .answer2 .given .0 .0)) (found k)))
     (rw (p .part-of .ensures) at (s .store .ensures))
 

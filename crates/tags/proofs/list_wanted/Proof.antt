@@ -55,7 +55,7 @@ sub-list c =
     let s = c .before .before .before in
     let a = s .before .before .before .args in
     let (o, f, t) = ends s in
-    let k = covered-is (a .tag .ticks) (recorded (a .from)) (recorded (a .to)) o (inside c) in
+    let k = covered-is builtin (a .tag .ticks) (recorded (a .from)) (recorded (a .to)) o (inside c) in
     omega (arith, f, start-shift (a .tag .ticks) (recorded (a .from)) (k .starts))
 
 sub-list-2 : tie.Need-sub-list-2
@@ -63,7 +63,7 @@ sub-list-2 c =
     let s = c .before .before .before in
     let a = s .before .before .before .args in
     let (o, f, t) = ends s in
-    let k = covered-is (a .tag .ticks) (recorded (a .from)) (recorded (a .to)) o (inside c) in
+    let k = covered-is builtin (a .tag .ticks) (recorded (a .from)) (recorded (a .to)) o (inside c) in
     omega (arith, t, start-shift (a .tag .ticks) (recorded (a .to)) (k .ends))
 
 list-requires : tie.Need-list-requires
@@ -87,8 +87,8 @@ returns-3 c =
     let s = e .before .before .before in
     let a = s .before .before .before .args in
     let (o, f, t) = ends s in
-    let k = covered-is (a .tag .ticks) (recorded (a .from)) (recorded (a .to)) o (inside e) in
-    wanted-by (recorded (a .from)) (recorded (a .to)) (a .tag) o (inside e) _ _ (l .list .ensures)
+    let k = covered-is builtin (a .tag .ticks) (recorded (a .from)) (recorded (a .to)) o (inside e) in
+    wanted-by builtin (recorded (a .from)) (recorded (a .to)) (a .tag) o (inside e) _ _ (l .list .ensures)
     (omega (arith, f, start-shift (a .tag .ticks) (recorded (a .from)) (k .starts))) (omega (arith, t, start-shift (a .tag .ticks) (recorded (a .to)) (k .ends)))
 
 pub list-wanted-spec : {M : Type 1} → statement M
