@@ -4,6 +4,7 @@ use scale::Record;
 ghost use mathlib.Core.Path.{_≡_};
 ghost use Rattle.base.specs.Outcome.{status, cell};
 ghost use Rattle.octets.specs.Writes.{filled};
+ghost use Rattle.leap.specs.Builtin.{builtin};
 ghost use Rattle.codes.specs.Reading.{scanOf};
 ghost use Rattle.codes.specs.Writing.{writeOf, from};
 ghost use Rattle.codes.specs.Answers.{saysReading};
@@ -20,10 +21,10 @@ pub extern "C" fn hz_read_binary(
     ticks: &mut u64,
     used: &mut usize,
 ) -> u8
-    ensures answer { λ r. ⌜ r ≡ status (scanOf (now (bytes .entry)) (from front p) epoch) ⌝ }
-    ensures seconds { λ _. ⌜ now (sec .exit) ≡ cell scannedSec (scanOf (now (bytes .entry)) (from front p) epoch) (now (sec .entry)) ⌝ }
-    ensures parts { λ _. ⌜ now (ticks .exit) ≡ cell scannedTicks (scanOf (now (bytes .entry)) (from front p) epoch) (now (ticks .entry)) ⌝ }
-    ensures count { λ _. ⌜ now (used .exit) ≡ cell scannedUsed (scanOf (now (bytes .entry)) (from front p) epoch) (now (used .entry)) ⌝ }
+    ensures answer { λ r. ⌜ r ≡ status (scanOf builtin (now (bytes .entry)) (from front p) epoch) ⌝ }
+    ensures seconds { λ _. ⌜ now (sec .exit) ≡ cell scannedSec (scanOf builtin (now (bytes .entry)) (from front p) epoch) (now (sec .entry)) ⌝ }
+    ensures parts { λ _. ⌜ now (ticks .exit) ≡ cell scannedTicks (scanOf builtin (now (bytes .entry)) (from front p) epoch) (now (ticks .entry)) ⌝ }
+    ensures count { λ _. ⌜ now (used .exit) ≡ cell scannedUsed (scanOf builtin (now (bytes .entry)) (from front p) epoch) (now (used .entry)) ⌝ }
 {
     let preamble = super::preambles::preamble_of(front, p);
     let a = codes::scan(bytes, preamble, epoch);
@@ -61,9 +62,9 @@ pub extern "C" fn hz_write_binary(
     out: &mut [u8],
     written: &mut usize,
 ) -> u8
-    ensures answer { λ r. ⌜ r ≡ status (writeOf (time sec ticks) p epoch front (now (out .entry))) ⌝ }
-    ensures bytes { λ _. ⌜ now (out .exit) ≡ filled 0 (writeOf (time sec ticks) p epoch front (now (out .entry))) (now (out .entry)) ⌝ }
-    ensures count { λ _. ⌜ now (written .exit) ≡ cell lengthOf (writeOf (time sec ticks) p epoch front (now (out .entry))) (now (written .entry)) ⌝ }
+    ensures answer { λ r. ⌜ r ≡ status (writeOf builtin (time sec ticks) p epoch front (now (out .entry))) ⌝ }
+    ensures bytes { λ _. ⌜ now (out .exit) ≡ filled 0 (writeOf builtin (time sec ticks) p epoch front (now (out .entry))) (now (out .entry)) ⌝ }
+    ensures count { λ _. ⌜ now (written .exit) ≡ cell lengthOf (writeOf builtin (time sec ticks) p epoch front (now (out .entry))) (now (written .entry)) ⌝ }
 {
     let r = Record {
         sec: sec,

@@ -4,6 +4,7 @@ use window::Listing;
 ghost use mathlib.Core.Path.{_≡_};
 ghost use Rattle.base.specs.Outcome.{status, cell, given};
 ghost use Rattle.window.specs.Window.{saysListing, listed, leaves};
+ghost use Rattle.leap.specs.Builtin.{builtin};
 ghost use Rattle.codes.specs.Writing.{from};
 ghost use Rattle.tags.specs.CucTag.{listCuc};
 ghost use Rattle.tags.specs.AsciiTag.{listAscii};
@@ -57,11 +58,11 @@ pub extern "C" fn hz_list_ascii(
     count: &mut usize,
     more: &mut bool,
 ) -> u8
-    ensures answer { λ r. ⌜ r ≡ status (listAscii (now (tag .entry)) (time begin beginticks) (time end endticks)) ⌝ }
-    ensures seconds { λ _. ⌜ now (list .exit) ≡ leaves (listAscii (now (tag .entry)) (time begin beginticks) (time end endticks)) (now (list .entry)) ⌝ }
-    ensures parts { λ _. ⌜ now (ticks .exit) ≡ cell listedTicks (given (listed (now (list .entry))) (listAscii (now (tag .entry)) (time begin beginticks) (time end endticks))) (now (ticks .entry)) ⌝ }
-    ensures number { λ _. ⌜ now (count .exit) ≡ cell listedCount (given (listed (now (list .entry))) (listAscii (now (tag .entry)) (time begin beginticks) (time end endticks))) (now (count .entry)) ⌝ }
-    ensures further { λ _. ⌜ now (more .exit) ≡ cell listedMore (given (listed (now (list .entry))) (listAscii (now (tag .entry)) (time begin beginticks) (time end endticks))) (now (more .entry)) ⌝ }
+    ensures answer { λ r. ⌜ r ≡ status (listAscii builtin (now (tag .entry)) (time begin beginticks) (time end endticks)) ⌝ }
+    ensures seconds { λ _. ⌜ now (list .exit) ≡ leaves (listAscii builtin (now (tag .entry)) (time begin beginticks) (time end endticks)) (now (list .entry)) ⌝ }
+    ensures parts { λ _. ⌜ now (ticks .exit) ≡ cell listedTicks (given (listed (now (list .entry))) (listAscii builtin (now (tag .entry)) (time begin beginticks) (time end endticks))) (now (ticks .entry)) ⌝ }
+    ensures number { λ _. ⌜ now (count .exit) ≡ cell listedCount (given (listed (now (list .entry))) (listAscii builtin (now (tag .entry)) (time begin beginticks) (time end endticks))) (now (count .entry)) ⌝ }
+    ensures further { λ _. ⌜ now (more .exit) ≡ cell listedMore (given (listed (now (list .entry))) (listAscii builtin (now (tag .entry)) (time begin beginticks) (time end endticks))) (now (more .entry)) ⌝ }
 {
     let since = Record {
         sec: begin,

@@ -3,18 +3,19 @@ use scale::Record;
 ghost use mathlib.Core.Path.{_≡_};
 ghost use Rattle.base.specs.Outcome.{status, cell};
 ghost use Rattle.octets.specs.Writes.{filled};
-ghost use Rattle.ascii.specs.Ascii.{text};
+ghost use Rattle.leap.specs.Builtin.{builtin};
+ghost use Rattle.codes.specs.Text.{textOf};
 ghost use Rattle.codes.specs.Setting.{asciiOf, wallOf};
 ghost use Rattle.honigzange.specs.Cells.{time, secOf, ticksOf, lengthOf, asciiLayout};
 
 // The moment of an ASCII code, which is the whole text.
 #[no_mangle]
 pub extern "C" fn hz_read_ascii(code: &[u8], sec: &mut i64, ticks: &mut u64) -> u8
-    ensures answer { λ r. ⌜ r ≡ status (text (now (code .entry))) ⌝ }
-    ensures seconds { λ _. ⌜ now (sec .exit) ≡ cell secOf (text (now (code .entry))) (now (sec .entry)) ⌝ }
-    ensures parts { λ _. ⌜ now (ticks .exit) ≡ cell ticksOf (text (now (code .entry))) (now (ticks .entry)) ⌝ }
+    ensures answer { λ r. ⌜ r ≡ status (textOf builtin (now (code .entry))) ⌝ }
+    ensures seconds { λ _. ⌜ now (sec .exit) ≡ cell secOf (textOf builtin (now (code .entry))) (now (sec .entry)) ⌝ }
+    ensures parts { λ _. ⌜ now (ticks .exit) ≡ cell ticksOf (textOf builtin (now (code .entry))) (now (ticks .entry)) ⌝ }
 {
-    let a = ascii::read(code);
+    let a = codes::text::read(code);
     super::answers::give_record(a, sec, ticks)
 }
 
@@ -29,9 +30,9 @@ pub extern "C" fn hz_write_ascii(
     out: &mut [u8],
     written: &mut usize,
 ) -> u8
-    ensures answer { λ r. ⌜ r ≡ status (asciiOf (asciiLayout «day_of_year» digits z) (time sec ticks) (now (out .entry))) ⌝ }
-    ensures bytes { λ _. ⌜ now (out .exit) ≡ filled 0 (asciiOf (asciiLayout «day_of_year» digits z) (time sec ticks) (now (out .entry))) (now (out .entry)) ⌝ }
-    ensures count { λ _. ⌜ now (written .exit) ≡ cell lengthOf (asciiOf (asciiLayout «day_of_year» digits z) (time sec ticks) (now (out .entry))) (now (written .entry)) ⌝ }
+    ensures answer { λ r. ⌜ r ≡ status (asciiOf builtin (asciiLayout «day_of_year» digits z) (time sec ticks) (now (out .entry))) ⌝ }
+    ensures bytes { λ _. ⌜ now (out .exit) ≡ filled 0 (asciiOf builtin (asciiLayout «day_of_year» digits z) (time sec ticks) (now (out .entry))) (now (out .entry)) ⌝ }
+    ensures count { λ _. ⌜ now (written .exit) ≡ cell lengthOf (asciiOf builtin (asciiLayout «day_of_year» digits z) (time sec ticks) (now (out .entry))) (now (written .entry)) ⌝ }
 {
     let r = Record {
         sec: sec,
@@ -42,16 +43,16 @@ pub extern "C" fn hz_write_ascii(
         digits: digits as usize,
         zone: z,
     };
-    let a = ascii::write(r, l, out, 0);
+    let a = codes::text::write(r, l, out, 0);
     super::answers::give_length(a, written)
 }
 
 // A moment in the default setting.
 #[no_mangle]
 pub extern "C" fn hz_write_wall(sec: i64, ticks: u64, out: &mut [u8], written: &mut usize) -> u8
-    ensures answer { λ r. ⌜ r ≡ status (wallOf (time sec ticks) (now (out .entry))) ⌝ }
-    ensures bytes { λ _. ⌜ now (out .exit) ≡ filled 0 (wallOf (time sec ticks) (now (out .entry))) (now (out .entry)) ⌝ }
-    ensures count { λ _. ⌜ now (written .exit) ≡ cell lengthOf (wallOf (time sec ticks) (now (out .entry))) (now (written .entry)) ⌝ }
+    ensures answer { λ r. ⌜ r ≡ status (wallOf builtin (time sec ticks) (now (out .entry))) ⌝ }
+    ensures bytes { λ _. ⌜ now (out .exit) ≡ filled 0 (wallOf builtin (time sec ticks) (now (out .entry))) (now (out .entry)) ⌝ }
+    ensures count { λ _. ⌜ now (written .exit) ≡ cell lengthOf (wallOf builtin (time sec ticks) (now (out .entry))) (now (written .entry)) ⌝ }
 {
     let r = Record {
         sec: sec,

@@ -7,11 +7,12 @@ use Rattle.base.proofs.Signed.{back}
 use Rattle.codes.specs.Reading.{scanOf}
 use Rattle.codes.specs.Writing.{from}
 use Rattle.codes.specs.Answers.{saysReading}
+use Rattle.leap.specs.Builtin.{builtin}
 use Rattle.honigzange.proofs.binaries.hz_read_binary.Statement.{statement}
 use Rattle.honigzange.proofs.binaries.hz_read_binary.Tie as tie
 
 -- what `scan` said, at the caller's own words
-told : (c : tie.After-scan) → let a = c .before .before .before .args in scanOf (now (a .bytes)) (from (a .front) (a .p)) (a .epoch) ≡ saysReading (c .scan .result)
+told : (c : tie.After-scan) → let a = c .before .before .before .args in scanOf builtin (now (a .bytes)) (from (a .front) (a .p)) (a .epoch) ≡ saysReading (c .scan .result)
 told c =
     let k = c .before in
     let s = k .before .before in

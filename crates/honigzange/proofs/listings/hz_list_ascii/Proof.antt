@@ -5,13 +5,14 @@ use mir.Syntax.{w64}
 use Rattle.base.proofs.Signed.{back}
 use Rattle.window.specs.Window.{Lists}
 use Rattle.tags.specs.AsciiTag.{listAscii}
+use Rattle.leap.specs.Builtin.{builtin}
 use Rattle.honigzange.specs.Cells.{time}
 use Rattle.honigzange.proofs.Lists.{tells-listing}
 use Rattle.honigzange.proofs.listings.hz_list_ascii.Statement.{statement}
 use Rattle.honigzange.proofs.listings.hz_list_ascii.Tie as tie
 
 -- what was listed, at the numbers themselves
-told : (c : tie.After-list-ascii) → let a = c .before .before .before .args in Lists (listAscii (now (a .tag)) (time (a .begin) (a .beginticks)) (time (a .end) (a .endticks))) (now (a .list)) (c .list-ascii .last .1 .1 .1 .0) (c .list-ascii .result)
+told : (c : tie.After-list-ascii) → let a = c .before .before .before .args in Lists (listAscii builtin (now (a .tag)) (time (a .begin) (a .beginticks)) (time (a .end) (a .endticks))) (now (a .list)) (c .list-ascii .last .1 .1 .1 .0) (c .list-ascii .result)
 told c =
     let s = c .before .before .before in
     rw (back w64 (s .args .begin) (s .fits .begin), back w64 (s .args .end) (s .fits .end)) at (c .list-ascii .ensures)

@@ -5,13 +5,14 @@ use mir.Syntax.{w64}
 use Rattle.base.proofs.Signed.{back}
 use Rattle.octets.specs.Writes.{Wrote}
 use Rattle.codes.specs.Setting.{asciiOf}
+use Rattle.leap.specs.Builtin.{builtin}
 use Rattle.honigzange.specs.Cells.{time, asciiLayout}
 use Rattle.honigzange.proofs.Writes.{tells-length}
 use Rattle.honigzange.proofs.texts.hz_write_ascii.Statement.{statement}
 use Rattle.honigzange.proofs.texts.hz_write_ascii.Tie as tie
 
 -- what was written, at the numbers themselves
-told : (c : tie.After-write) → let a = c .before .before .before .args in Wrote (asciiOf (asciiLayout (a .day-of-year) (a .digits) (a .z)) (time (a .sec) (a .ticks)) (now (a .out))) 0 (now (a .out)) (c .write .last .1 .1 .0) (c .write .result)
+told : (c : tie.After-write) → let a = c .before .before .before .args in Wrote (asciiOf builtin (asciiLayout (a .day-of-year) (a .digits) (a .z)) (time (a .sec) (a .ticks)) (now (a .out))) 0 (now (a .out)) (c .write .last .1 .1 .0) (c .write .result)
 told c =
     let s = c .before .before .before in
     rw (back w64 (s .args .sec) (s .fits .sec)) at (c .write .ensures)

@@ -5,13 +5,14 @@ use mir.Syntax.{w64}
 use Rattle.base.proofs.Signed.{back}
 use Rattle.octets.specs.Writes.{Wrote}
 use Rattle.codes.specs.Setting.{wallOf}
+use Rattle.leap.specs.Builtin.{builtin}
 use Rattle.honigzange.specs.Cells.{time}
 use Rattle.honigzange.proofs.Writes.{tells-length}
 use Rattle.honigzange.proofs.texts.hz_write_wall.Statement.{statement}
 use Rattle.honigzange.proofs.texts.hz_write_wall.Tie as tie
 
 -- what was written, at the numbers themselves
-told : (c : tie.After-write-wall) → let a = c .before .before .before .args in Wrote (wallOf (time (a .sec) (a .ticks)) (now (a .out))) 0 (now (a .out)) (c .write-wall .last .1 .0) (c .write-wall .result)
+told : (c : tie.After-write-wall) → let a = c .before .before .before .args in Wrote (wallOf builtin (time (a .sec) (a .ticks)) (now (a .out))) 0 (now (a .out)) (c .write-wall .last .1 .0) (c .write-wall .result)
 told c =
     let s = c .before .before .before in
     rw (back w64 (s .args .sec) (s .fits .sec)) at (c .write-wall .ensures)
