@@ -6,10 +6,12 @@ use Rattle.scale.specs.Time.{good}
 use Rattle.octets.specs.Counts.{countOf}
 use Rattle.octets.specs.Stores.{pasted}
 use Rattle.octets.specs.Writes.{roomed}
-use Rattle.calendar.specs.Gregorian.{kind, yearStart, yearsTo, row, monthLength, isDate, isOrdinal, dayIndex, ordinalOn, dateIn, indexOfDate, indexOfOrdinal, ordinalAt}
+use Rattle.calendar.specs.Gregorian.{kind, yearStart, yearsTo, row, monthLength, isDate, isOrdinal, dayIndex, ordinalOn, dateIn, indexOfDate, indexOfOrdinal, ordinalAt, indexOfDay}
 use Rattle.leap.specs.Table.{offset, start, dayLength, covers, secondAt, dayHolding, coversSecond, readingAt}
 use Rattle.leap.specs.Builtin.{builtin}
 use Rattle.leap.specs.Utc.{raisedBy, readingOf, secondOf, utcOfSecond, secondOfUtc}
+use Rattle.moment.specs.Moment.{isMoment}
+use Rattle.utc.specs.Reckoning.{timeOf, momentOf}
 use Rattle.window.specs.Seconds.{firstSecond}
 use Rattle.window.specs.Window.{listed, filled, namedIn, filter, consIf, range, up}
 use Rattle.counter.specs.Counter.{names}
@@ -22,6 +24,7 @@ use Rattle.codes.specs.PField.{laid, cucLaid, cdsLaid, ccsLaid}
 use Rattle.codes.specs.PField as P
 use Rattle.codes.specs.Reading.{scanIn, scanAt, scanOf}
 use Rattle.codes.specs.Writing.{writeOf}
+use Rattle.codes.specs.Text.{letters}
 use Rattle.tags.specs.Records.{startAt, momentsIn}
 use Rattle.tags.specs.CucTag.{isCuc, tagWith, tagIn, tagAt, tagOf, listPeriodic, listCuc}
 use Rattle.known.specs.Known.{Line, answer, table}
@@ -29,12 +32,13 @@ use Rattle.known.specs.Known.{Line, answer, table}
 pub known-times : map (λ (l : Line). answer (l .call)) table ≡ map (λ (l : Line). l .says) table
 unfolding table
     within good countOf pasted roomed
-    kind yearStart yearsTo row monthLength isDate isOrdinal dayIndex ordinalOn dateIn indexOfDate indexOfOrdinal ordinalAt
+    kind yearStart yearsTo row monthLength isDate isOrdinal dayIndex ordinalOn dateIn indexOfDate indexOfOrdinal ordinalAt indexOfDay
     offset start dayLength covers secondAt dayHolding coversSecond readingAt builtin raisedBy readingOf secondOf utcOfSecond secondOfUtc
     U.isWidth U.width U.unit U.timeOf U.field U.holds U.countOf U.bytesOf
-    D.isWidth D.width D.timed D.fieldBy D.held D.laid D.bytesOn D.bytesBy
-    C.width C.dayAt C.clockAt C.timeOf C.fieldBy C.dateText C.clockText C.bytesBy
-    shapes shaped A.layoutOf A.dayAt A.clockAt A.fieldsOf A.timeOf A.textBy A.dayText A.clockText A.codeText A.bytesBy
+    isMoment timeOf momentOf letters
+    D.isWidth D.width D.timed D.field D.held D.laid D.bytesOf
+    C.width C.dayAt C.clockAt C.field C.dateText C.clockText C.bytesOf
+    shapes shaped A.layoutOf A.dayAt A.clockAt A.fieldsOf A.text A.dayText A.clockText A.codeText A.bytesOf
     P.known laid cucLaid cdsLaid ccsLaid scanIn scanAt scanOf writeOf
     listed filled firstSecond names namedIn filter consIf range up startAt momentsIn isCuc tagWith tagIn tagAt tagOf listPeriodic listCuc
 known-times = refl

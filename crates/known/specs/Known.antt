@@ -9,7 +9,8 @@ use Rattle.scale.specs.Time.{Time, perSecond}
 use Rattle.octets.specs.Writes.{endOf, filled}
 use Rattle.window.specs.Window.{Named, Listed, listed, leaves}
 use Rattle.ascii.specs.Quoted.{bytes}
-use Rattle.ascii.specs.Ascii.{text}
+use Rattle.leap.specs.Builtin.{builtin}
+use Rattle.codes.specs.Text.{textOf}
 use Rattle.codes.specs.Reading.{Scanned, scanOf}
 use Rattle.codes.specs.Setting.{written}
 use Rattle.codes.specs.declared.Preamble.the-variants.{Front}
@@ -58,9 +59,9 @@ abbrev pub toldListed : Outcome (Named ℤ) → List ℤ → Answer
 toldListed x out = told (λ l. lists l (leaves x out)) (given (listed out) x)
 
 abbrev pub answer : Call → Answer
-answer (readAscii s) = told moment (text s)
-answer (readBinary s e) = told taken (scanOf s Front e)
-answer (write r setting n) = toldWritten (written r setting (lentBytes n)) (lentBytes n)
+answer (readAscii s) = told moment (textOf builtin s)
+answer (readBinary s e) = told taken (scanOf builtin s Front e)
+answer (write r setting n) = toldWritten (written builtin r setting (lentBytes n)) (lentBytes n)
 answer (list s e from to n) = toldListed (listCuc s Front e from to) (lentList n)
 
 -- ---- the table

@@ -4,22 +4,22 @@ use mathlib.Core.List.{List, [], _∷_, _++_}
 use Prim.Native.Nat.{ℕ, _≤_}
 use lib.ListN.{length}
 use Rattle.base.specs.Outcome.{done}
-use Rattle.base.proofs.Ladders.{need-done, then-done}
-use Rattle.scale.specs.Time.{Time, isRecord}
+use Rattle.scale.specs.Time.{Time}
 use Rattle.leap.specs.Builtin.{builtin}
-use Rattle.leap.specs.Utc.{readingOf}
-use Rattle.ascii.specs.Ascii.{isLayout, layoutOf, text, bytesBy, bytesOf}
-use Rattle.ascii.proofs.Promises.{read-valid, read-written, covered-written}
+use Rattle.utc.proofs.Builtin.{builtin-reckons}
+use Rattle.utc.proofs.Laws.{time-back, moment-told}
+use Rattle.utc.proofs.Lift.{read-of}
+use Rattle.ascii.specs.Ascii.{text}
+use Rattle.codes.specs.Text.{textOf, letters}
 use Rattle.codes.specs.Setting.{defaultLayout}
+use Rattle.codes.proofs.Texts.{read-valid, covered-written}
 use Rattle.lines.specs.Answer.{printed, answerOf}
 use Rattle.lines.proofs.Texts.{of-read}
 
-pub read-printed : (p : List ℕ) (t : Time) → length p ≤ 64 → text p ≡ done t → (code : List ℕ) × ((bytesOf defaultLayout t ≡ done code) × (answerOf p ≡ code ++ 10 ∷ []))
-unfolding bytesBy printed
+pub read-printed : (p : List ℕ) (t : Time) → length p ≤ 64 → textOf builtin p ≡ done t → (code : List ℕ) × ((letters builtin defaultLayout t ≡ done code) × (answerOf builtin p ≡ code ++ 10 ∷ []))
+unfolding printed
 read-printed p t h e =
-    let l = layoutOf p in
-    let w = need-done (isRecord t) 7 _ p (read-written p t e) .1 in
-    let v = need-done (isLayout l) 3 _ p w .1 in
-    let (u, (r, c)) = then-done (readingOf builtin (t .sec)) _ p v in
-    let (code, b) = covered-written defaultLayout t (read-valid p t e) refl u r in
-    (code, (b, ap printed (of-read p h (done t) (sym e) ∙ b)))
+    let r = read-of builtin (text p) t e in
+    let (u, (a, b)) = moment-told builtin t (r .moment) (time-back builtin builtin-reckons (r .moment) t (r .is)) in
+    let (code, c) = covered-written builtin builtin-reckons defaultLayout t (read-valid builtin builtin-reckons p t e) refl u a in
+    (code, (c, ap printed (of-read p h (done t) (sym e) ∙ c)))

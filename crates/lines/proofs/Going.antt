@@ -10,6 +10,7 @@ use lib.Seq.{drop-drop, take-at, drop-at, length-take-le}
 use borrow.Author.Tests.{lt-ltb, le-ltb, eq-eqb, ne-eqb}
 use Rattle.octets.specs.Stores.{pasted}
 use Rattle.octets.proofs.Pastes.{length-pasted, paste-first}
+use Rattle.leap.specs.Builtin.{builtin}
 use Rattle.lines.specs.Answer.{answerOf}
 use Rattle.lines.specs.Split.{before, Fate, fate, after, kept, lastOf, ending}
 use Rattle.lines.specs.Says.{lineOf, heldOf, over, Fares, Ends}
@@ -65,7 +66,7 @@ pub record Going (piece old : List ℕ) (goal : Fate) (out : List ℕ) (begin wr
   pub room : wrote ≤ length old
   pub same : length out ≡ length old
   pub rest : drop wrote out ≡ drop wrote old
-  pub whole : after (take wrote out) begin (fate [] (drop begin piece) (length old - wrote)) ≡ goal
+  pub whole : after (take wrote out) begin (fate builtin [] (drop begin piece) (length old - wrote)) ≡ goal
 
 module _ {piece old : List ℕ} {goal : Fate} {out : List ℕ} {begin wrote end : ℕ} (g : Going piece old goal out begin wrote end) where
   -- the line that ends next
@@ -80,21 +81,21 @@ module _ {piece old : List ℕ} {goal : Fate} {out : List ℕ} {begin wrote end 
       fares goal (kept (take (end - begin) (drop begin piece))) piece old out wrote end (sym (g .whole) ∙ ap (after (take wrote out) begin) s ∙ rw (append-nil, ← e, line)) (g .within) (omega (arith, g .room, g .same)) (g .rest)
 
   pub goes-on : (r next : ℕ) (new : List ℕ) → end < length piece → 80 ≤ length old - wrote
-      → r ≡ wrote + length (answerOf (take (end - begin) (drop begin piece))) → new ≡ pasted out wrote (answerOf (take (end - begin) (drop begin piece)))
+      → r ≡ wrote + length (answerOf builtin (take (end - begin) (drop begin piece))) → new ≡ pasted out wrote (answerOf builtin (take (end - begin) (drop begin piece)))
       → next ≡ end + 1 + before (drop (end + 1) piece) → next ≤ length piece → Going piece old goal new (end + 1) r next
   goes-on r next new h k e o ne nl =
-      let a = answerOf (take (end - begin) (drop begin piece)) in
+      let a = answerOf builtin (take (end - begin) (drop begin piece)) in
       let small = length-answer (take (end - begin) (drop begin piece)) in
       let fit : wrote + length a ≤ length out = omega (arith, g .same, small) in
       let (f, d) = front-pasted out wrote r a (omega (arith, g .same, g .room)) e in
       let b : before (drop begin piece) < length (drop begin piece) = omega (arith, g .ahead, length-drop begin piece) in
       let s = goes [] (drop begin piece) (length old - wrote) (omega arith) k b in
-      let q : answerOf (kept (take (before (drop begin piece)) (drop begin piece))) ≡ a = kept-answer _ ∙ ap answerOf line in
+      let q : answerOf builtin (kept (take (before (drop begin piece)) (drop begin piece))) ≡ a = kept-answer _ ∙ ap (answerOf builtin) line in
       let to : drop (suc (before (drop begin piece))) (drop begin piece) ≡ drop (end + 1) piece = drop-drop _ begin piece ∙ (let z : begin + suc (before (drop begin piece)) ≡ end + 1 = omega (arith, g .ahead) in ap (λ (j : ℕ). drop j piece) z) in
       let n : begin + suc (before (drop begin piece)) ≡ end + 1 = omega (arith, g .ahead) in
       let less : length old - wrote - length a ≡ length old - r = omega arith in
-      let left = fate [] (drop (end + 1) piece) (length old - r) in
-      let turn : fate [] (drop begin piece) (length old - wrote) ≡ after a (suc (before (drop begin piece))) left = s ∙ rw (q, to, less) in
+      let left = fate builtin [] (drop (end + 1) piece) (length old - r) in
+      let turn : fate builtin [] (drop begin piece) (length old - wrote) ≡ after a (suc (before (drop begin piece))) left = s ∙ rw (q, to, less) in
       record {
         ahead = ne;
         within = nl;
@@ -110,33 +111,33 @@ module _ {piece old : List ℕ} {goal : Fate} {out : List ℕ} {begin wrote end 
       }
 
 pub begins : (piece old : List ℕ) (from at end : ℕ) → end ≡ from + before (drop from piece) → end ≤ length piece → at ≤ length old
-    → Going piece old (after (take at old) from (fate [] (drop from piece) (length old - at))) old from at end
+    → Going piece old (after (take at old) from (fate builtin [] (drop from piece) (length old - at))) old from at end
 begins piece old from at end e l h = record { ahead = e; within = l; room = h; same = refl; rest = refl; whole = refl }
 
 -- ---- the whole of `feed`, p being the line so far
 module _ (p piece old : List ℕ) (small : length p ≤ 65) where
   -- nothing past the first line is answered
   pub holds-all : (end : ℕ) → end ≡ 0 + before piece → end ≤ length piece → (end < length piece → length old < 80)
-      → Fares (fate p piece (length old)) piece old old (record { line = lineOf (kept (p ++ take end piece)); wrote = 0; used = end })
+      → Fares (fate builtin p piece (length old)) piece old old (record { line = lineOf (kept (p ++ take end piece)); wrote = 0; used = end })
   holds-all end e l h =
       let s = stops p piece (length old) small (λ k. h (omega arith)) in
       let z : before piece ≡ end = omega arith in
-      fares (fate p piece (length old)) (kept (p ++ take end piece)) piece old old 0 end (s ∙ rw z) l (omega arith) refl
+      fares (fate builtin p piece (length old)) (kept (p ++ take end piece)) piece old old 0 end (s ∙ rw z) l (omega arith) refl
 
   -- the first line is answered, and the others after it
   pub goes-first : (end wrote : ℕ) (mid new : List ℕ) (r : Fed) → end ≡ 0 + before piece → end < length piece → 80 ≤ length old
-      → wrote ≡ length (answerOf (kept (p ++ take end piece))) → mid ≡ pasted old 0 (answerOf (kept (p ++ take end piece)))
-      → Fares (after (take wrote mid) (end + 1) (fate [] (drop (end + 1) piece) (length mid - wrote))) piece mid new r → Fares (fate p piece (length old)) piece old new r
+      → wrote ≡ length (answerOf builtin (kept (p ++ take end piece))) → mid ≡ pasted old 0 (answerOf builtin (kept (p ++ take end piece)))
+      → Fares (after (take wrote mid) (end + 1) (fate builtin [] (drop (end + 1) piece) (length mid - wrote))) piece mid new r → Fares (fate builtin p piece (length old)) piece old new r
   goes-first end wrote mid new r e l h w m g =
-      let a = answerOf (kept (p ++ take end piece)) in
+      let a = answerOf builtin (kept (p ++ take end piece)) in
       let s = goes p piece (length old) small h (omega arith) in
       let z : before piece ≡ end = omega arith in
       let (f, d) = front-pasted old 0 wrote a (omega arith) (omega arith) in
       let k = length-answer (kept (p ++ take end piece)) in
       let n : length mid ≡ length old = ap length m ∙ length-pasted old 0 a (omega arith) in
-      let whole : fate p piece (length old) ≡ after (take wrote mid) (end + 1) (fate [] (drop (end + 1) piece) (length mid - wrote)) = s ∙ rw (z, n, m, f, w, add-one) in
-      let x : Fares (fate p piece (length old)) piece mid new r = rw whole g in
-      fares-on (fate p piece (length old)) piece old mid new wrote r (rw (s, z) (simp length-append (omega arith))) (ap (drop wrote) m ∙ d) x
+      let whole : fate builtin p piece (length old) ≡ after (take wrote mid) (end + 1) (fate builtin [] (drop (end + 1) piece) (length mid - wrote)) = s ∙ rw (z, n, m, f, w, add-one) in
+      let x : Fares (fate builtin p piece (length old)) piece mid new r = rw whole g in
+      fares-on (fate builtin p piece (length old)) piece old mid new wrote r (rw (s, z) (simp length-append (omega arith))) (ap (drop wrote) m ∙ d) x
 
 -- ---- what a line holds
 pub held-small : (n : ℕ) (b : List ℕ) → length (take (min n 65) b) ≤ 65
@@ -156,14 +157,14 @@ ends text old new r e b h =
     record { answer = e; bytes = b; wrote-in = omega arith; wrote-all = sym (length-take-le r new (omega arith)) }
 
 module _ (p old : List ℕ) where
-  pub ends-full : length old < 80 → Ends (ending p (length old)) old old 0
+  pub ends-full : length old < 80 → Ends (ending builtin p (length old)) old old 0
   unfolding ending
   ends-full h = rw (lt-ltb (length old) 80 h) (ends [] old old 0 refl refl (omega arith))
 
-  pub ends-none : 80 ≤ length old → length p ≡ 0 → Ends (ending p (length old)) old old 0
+  pub ends-none : 80 ≤ length old → length p ≡ 0 → Ends (ending builtin p (length old)) old old 0
   unfolding ending lastOf
   ends-none h e = rw (le-ltb (length old) 80 h, eq-eqb (length p) 0 e) (ends [] old old 0 refl refl (omega arith))
 
-  pub ends-some : (new : List ℕ) (r : ℕ) → 80 ≤ length old → (length p ≡ 0 → ⊥) → r ≡ length (answerOf p) → new ≡ pasted old 0 (answerOf p) → Ends (ending p (length old)) old new r
+  pub ends-some : (new : List ℕ) (r : ℕ) → 80 ≤ length old → (length p ≡ 0 → ⊥) → r ≡ length (answerOf builtin p) → new ≡ pasted old 0 (answerOf builtin p) → Ends (ending builtin p (length old)) old new r
   unfolding ending lastOf
-  ends-some new r h n e b = rw (le-ltb (length old) 80 h, ne-eqb (length p) 0 n) (ends (answerOf p) old new r e (b ∙ paste-first old (answerOf p)) (omega (arith, length-answer p)))
+  ends-some new r h n e b = rw (le-ltb (length old) 80 h, ne-eqb (length p) 0 n) (ends (answerOf builtin p) old new r e (b ∙ paste-first old (answerOf builtin p)) (omega (arith, length-answer p)))

@@ -19,8 +19,10 @@ use Rattle.octets.specs.declared.Written.{Written}
 use Rattle.octets.specs.declared.Written.the-variants.{Done, Refused}
 use Rattle.octets.proofs.Writes.{room-in}
 use Rattle.octets.proofs.Pastes.{length-pasted, paste-one, then}
-use Rattle.ascii.specs.Ascii.{width, text, bytesOf}
-use Rattle.ascii.proofs.Promises.{write-width}
+use Rattle.ascii.specs.Ascii.{width}
+use Rattle.leap.specs.Builtin.{builtin}
+use Rattle.codes.specs.Text.{textOf, letters}
+use Rattle.codes.proofs.Texts.{write-width}
 use Rattle.codes.specs.Setting.{defaultLayout}
 use Rattle.lines.specs.Answer.{printed, outcomeOf, answerOf}
 
@@ -57,32 +59,32 @@ stored-refusal d at n h =
     rw (e1, e2, e3, e4, e5, e6, e7, e8, e9) (sets-eq (printed (refused n)) d at h)
 
 -- ---- the outcome of a line
-pub of-long : (p : List ℕ) → 64 < length p → outcomeOf p ≡ refused 4
+pub of-long : (p : List ℕ) → 64 < length p → outcomeOf builtin p ≡ refused 4
 unfolding outcomeOf
 of-long p h = need-no 4 _ (lt-leb (length p) 64 h)
 
-pub of-read : (p : List ℕ) → length p ≤ 64 → (x : Outcome Time) → x ≡ text p → outcomeOf p ≡ andThen x (bytesOf defaultLayout)
+pub of-read : (p : List ℕ) → length p ≤ 64 → (x : Outcome Time) → x ≡ textOf builtin p → outcomeOf builtin p ≡ andThen x (letters builtin defaultLayout)
 unfolding outcomeOf
-of-read p h x e = need-yes 4 _ (le-leb (length p) 64 h) ∙ ap (λ (y : Outcome Time). andThen y (bytesOf defaultLayout)) (sym e)
+of-read p h x e = need-yes 4 _ (le-leb (length p) 64 h) ∙ ap (λ (y : Outcome Time). andThen y (letters builtin defaultLayout)) (sym e)
 
 -- a code of the default layout has 24 bytes
-pub length-code : (t : Time) (code : List ℕ) → bytesOf defaultLayout t ≡ done code → length code ≡ 24
+pub length-code : (t : Time) (code : List ℕ) → letters builtin defaultLayout t ≡ done code → length code ≡ 24
 unfolding width
-length-code t code e = write-width defaultLayout t code e
+length-code t code e = write-width builtin defaultLayout t code e
 
 length-printed : (x : Outcome (List ℕ)) → ((code : List ℕ) → x ≡ done code → length code ≡ 24) → length (printed x) ≤ 25
 unfolding printed
 length-printed (done code) h = omega (arith, length-append code (10 ∷ []), h code refl)
 length-printed (refused n) h = omega (arith, length-refused n)
 
-done-length : (p code : List ℕ) → outcomeOf p ≡ done code → length code ≡ 24
+done-length : (p code : List ℕ) → outcomeOf builtin p ≡ done code → length code ≡ 24
 unfolding outcomeOf
 done-length p code e =
-    let (t, (f, g)) = then-done (text p) (bytesOf defaultLayout) code (need-done (leb (length p) 64) 4 _ code e .1) in
+    let (t, (f, g)) = then-done (textOf builtin p) (letters builtin defaultLayout) code (need-done (leb (length p) 64) 4 _ code e .1) in
     length-code t code g
 
-pub length-answer : (p : List ℕ) → length (answerOf p) ≤ 25
-length-answer p = length-printed (outcomeOf p) (done-length p)
+pub length-answer : (p : List ℕ) → length (answerOf builtin p) ≤ 25
+length-answer p = length-printed (outcomeOf builtin p) (done-length p)
 
 -- ---- what a write left, where there was room
 pub record Shown (x : Outcome (List ℕ)) (at : ℕ) (old new : List ℕ) (end : ℕ) : Type 0 where

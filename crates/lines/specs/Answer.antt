@@ -5,7 +5,8 @@ use lib.Dec.{leb}
 use lib.ListN.{length}
 use Rattle.base.specs.Outcome.{Outcome, done, refused, need, andThen}
 use Rattle.ascii.specs.Quoted.{bytes}
-use Rattle.ascii.specs.Ascii.{text, bytesOf}
+use Rattle.leap.specs.Table.{Table}
+use Rattle.codes.specs.Text.{textOf, letters}
 use Rattle.codes.specs.Setting.{defaultLayout}
 
 -- a code, or a refusal's number in one digit, and the line feed
@@ -14,8 +15,8 @@ printed (done code) = code ++ 10 ∷ []
 printed (refused n) = bytes "refused " ++ ((48 + n) ∷ 10 ∷ [])
 
 -- "A line over 64 bytes is 4"; else it is read as a full ASCII code, and the record is written in the default setting
-unfoldable pub outcomeOf : List ℕ → Outcome (List ℕ)
-outcomeOf p = need (leb (length p) 64) 4 (andThen (text p) (bytesOf defaultLayout))
+unfoldable pub outcomeOf : Table → List ℕ → Outcome (List ℕ)
+outcomeOf t p = need (leb (length p) 64) 4 (andThen (textOf t p) (letters t defaultLayout))
 
-abbrev pub answerOf : List ℕ → List ℕ
-answerOf p = printed (outcomeOf p)
+abbrev pub answerOf : Table → List ℕ → List ℕ
+answerOf t p = printed (outcomeOf t p)

@@ -4,21 +4,22 @@ use mathlib.Core.List.{List, [], _∷_, _++_}
 use Prim.Native.Nat.{ℕ, suc, _+_, _-_}
 use lib.Dec.{eqb, ltb}
 use lib.ListN.{length, take}
+use Rattle.leap.specs.Table.{Table}
 use Rattle.lines.specs.Answer.{answerOf}
 
 -- ---- the whole: "one a line, each ended by a line feed (the last may lack it)"
 -- what is printed for a last line that lacks its line feed; where nothing stands after the last line feed there is no such line
-unfoldable pub lastOf : List ℕ → List ℕ
-lastOf p = cond (eqb (length p) 0) [] (answerOf p)
+unfoldable pub lastOf : Table → List ℕ → List ℕ
+lastOf t p = cond (eqb (length p) 0) [] (answerOf t p)
 
 -- what is printed for an input, p being the line so far
-unfoldable pub answersFrom : List ℕ → List ℕ → List ℕ
-answersFrom p [] = lastOf p
-answersFrom p (b ∷ s) = cond (eqb b 10) (answerOf p ++ answersFrom [] s) (answersFrom (p ++ b ∷ []) s)
+unfoldable pub answersFrom : Table → List ℕ → List ℕ → List ℕ
+answersFrom t p [] = lastOf t p
+answersFrom t p (b ∷ s) = cond (eqb b 10) (answerOf t p ++ answersFrom t [] s) (answersFrom t (p ++ b ∷ []) s)
 
 -- what is printed for a whole input
-abbrev pub answers : List ℕ → List ℕ
-answers s = answersFrom [] s
+abbrev pub answers : Table → List ℕ → List ℕ
+answers t s = answersFrom t [] s
 
 -- how many bytes stand before the first line feed
 unfoldable pub before : List ℕ → ℕ
@@ -45,13 +46,13 @@ abbrev pub after : List ℕ → ℕ → Fate → Fate
 after w n f = record { held = f .held; wrote = w ++ f .wrote; used = n + f .used }
 
 -- p is held and there is room for so many bytes: a line feed is used, and its line answered, while 80 bytes of room are left; any other byte is used
-unfoldable pub fate : List ℕ → List ℕ → ℕ → Fate
-fate p [] room = rests p
-fate p (b ∷ s) room =
+unfoldable pub fate : Table → List ℕ → List ℕ → ℕ → Fate
+fate t p [] room = rests p
+fate t p (b ∷ s) room =
     cond (eqb b 10)
-    (cond (ltb room 80) (rests p) (after (answerOf p) 1 (fate [] s (room - length (answerOf p)))))
-    (after [] 1 (fate (kept (p ++ b ∷ [])) s room))
+    (cond (ltb room 80) (rests p) (after (answerOf t p) 1 (fate t [] s (room - length (answerOf t p)))))
+    (after [] 1 (fate t (kept (p ++ b ∷ [])) s room))
 
 -- the end of the input: a last line that lacks its line feed is answered where 80 bytes of room are left
-unfoldable pub ending : List ℕ → ℕ → List ℕ
-ending p room = cond (ltb room 80) [] (lastOf p)
+unfoldable pub ending : Table → List ℕ → ℕ → List ℕ
+ending t p room = cond (ltb room 80) [] (lastOf t p)

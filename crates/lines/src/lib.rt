@@ -11,7 +11,8 @@ ghost use Rattle.base.specs.Outcome.{refused};
 ghost use Rattle.base.specs.Refusals.{number};
 ghost use Rattle.octets.specs.Stores.{pasted};
 ghost use Rattle.scale.specs.Answers.{recorded};
-ghost use Rattle.ascii.specs.Ascii.{bytesOf};
+ghost use Rattle.leap.specs.Builtin.{builtin};
+ghost use Rattle.codes.specs.Text.{letters};
 ghost use Rattle.codes.specs.Setting.{defaultLayout};
 ghost use Rattle.lines.specs.Answer.{printed, answerOf};
 ghost use Rattle.lines.specs.Split.{before, fate, after, kept, ending};
@@ -42,7 +43,7 @@ pub fn start() -> Line
 
 // A piece of the input: each line that it ends is answered into out, while there is room for one more answer.
 pub fn feed(line: Line, piece: &[u8], out: &mut [u8]) -> Fed
-    ensures { λ r. ⌜ Fares (fate (heldOf line) (now (piece .entry)) (length (now (out .entry)))) (now (piece .entry)) (now (out .entry)) (now (out .exit)) r ⌝ }
+    ensures { λ r. ⌜ Fares (fate builtin (heldOf line) (now (piece .entry)) (length (now (out .entry)))) (now (piece .entry)) (now (out .entry)) (now (out .exit)) r ⌝ }
 {
     let end = find(piece, 0);
     let first = join(line, &piece[..end]);
@@ -66,7 +67,7 @@ pub fn feed(line: Line, piece: &[u8], out: &mut [u8]) -> Fed
 
 // The end of the input: a last line that lacks its line feed is answered, where out has room for an answer.
 pub fn finish(line: Line, out: &mut [u8]) -> usize
-    ensures { λ r. ⌜ Ends (ending (heldOf line) (length (now (out .entry)))) (now (out .entry)) (now (out .exit)) r ⌝ }
+    ensures { λ r. ⌜ Ends (ending builtin (heldOf line) (length (now (out .entry)))) (now (out .entry)) (now (out .exit)) r ⌝ }
 {
     if out.len() < 80 {
         return 0;
@@ -80,7 +81,7 @@ pub fn finish(line: Line, out: &mut [u8]) -> usize
 // The lines of a piece from a place on, each answered straight from the piece, into out from `at` on.
 fn go_on(piece: &[u8], from: usize, out: &mut [u8], at: usize) -> Fed
     requires { ⌜ (from ≤ length (now piece)) × (at ≤ length (now out)) ⌝ }
-    ensures { λ r. ⌜ Fares (after (take at (now (out .entry))) from (fate [] (drop from (now (piece .entry))) (length (now (out .entry)) - at))) (now (piece .entry)) (now (out .entry)) (now (out .exit)) r ⌝ }
+    ensures { λ r. ⌜ Fares (after (take at (now (out .entry))) from (fate builtin [] (drop from (now (piece .entry))) (length (now (out .entry)) - at))) (now (piece .entry)) (now (out .entry)) (now (out .exit)) r ⌝ }
 {
     let mut begin = from;
     let mut wrote = at;
@@ -158,7 +159,7 @@ fn join(line: Line, part: &[u8]) -> Line
 // What is printed for a held line, into the first bytes of out; and how many bytes that is.
 fn answer_held(line: Line, out: &mut [u8]) -> usize
     requires { ⌜ 80 ≤ length (now out) ⌝ }
-    ensures { λ r. ⌜ (r ≡ length (answerOf (heldOf line))) × (now (out .exit) ≡ pasted (now (out .entry)) 0 (answerOf (heldOf line))) ⌝ }
+    ensures { λ r. ⌜ (r ≡ length (answerOf builtin (heldOf line))) × (now (out .exit) ≡ pasted (now (out .entry)) 0 (answerOf builtin (heldOf line))) ⌝ }
 {
     let bytes = line.bytes;
     let len = least(line.len, 65);
@@ -168,12 +169,12 @@ fn answer_held(line: Line, out: &mut [u8]) -> usize
 // What is printed for one line, into out from `at` on; and where that ends.
 fn answer(line: &[u8], out: &mut [u8], at: usize) -> usize
     requires { ⌜ at + 80 ≤ length (now out) ⌝ }
-    ensures { λ r. ⌜ (r ≡ at + length (answerOf (now (line .entry)))) × (now (out .exit) ≡ pasted (now (out .entry)) at (answerOf (now (line .entry)))) ⌝ }
+    ensures { λ r. ⌜ (r ≡ at + length (answerOf builtin (now (line .entry)))) × (now (out .exit) ≡ pasted (now (out .entry)) at (answerOf builtin (now (line .entry)))) ⌝ }
 {
     if 64 < line.len() {
         return refuse(Refusal::Field, out, at);
     }
-    let read = ascii::read(line);
+    let read = codes::text::read(line);
     match read {
         RecordAnswer::Refused(why) => refuse(why, out, at),
         RecordAnswer::Done(r) => print(r, out, at),
@@ -183,9 +184,9 @@ fn answer(line: &[u8], out: &mut [u8], at: usize) -> usize
 // A record in the default setting and the line feed, into out from `at` on; and where that ends.
 fn print(r: Record, out: &mut [u8], at: usize) -> usize
     requires { ⌜ at + 80 ≤ length (now out) ⌝ }
-    ensures { λ m. ⌜ (m ≡ at + length (printed (bytesOf defaultLayout (recorded r)))) × (now (out .exit) ≡ pasted (now (out .entry)) at (printed (bytesOf defaultLayout (recorded r)))) ⌝ }
+    ensures { λ m. ⌜ (m ≡ at + length (printed (letters builtin defaultLayout (recorded r)))) × (now (out .exit) ≡ pasted (now (out .entry)) at (printed (letters builtin defaultLayout (recorded r)))) ⌝ }
 {
-    let written = ascii::write(r, codes::setting::DEFAULT, out, at);
+    let written = codes::text::write(r, codes::setting::DEFAULT, out, at);
     match written {
         Written::Refused(why) => refuse(why, out, at),
         Written::Done(end) => {

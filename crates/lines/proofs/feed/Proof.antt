@@ -6,6 +6,7 @@ use native.Mathlib.Omega.{arith}
 use lib.ListN.{length, take}
 use lib.Seq.{length-take-le}
 use Rattle.octets.specs.Stores.{pasted}
+use Rattle.leap.specs.Builtin.{builtin}
 use Rattle.lines.specs.Answer.{answerOf}
 use Rattle.lines.specs.Says.{heldOf}
 use Rattle.lines.proofs.Texts.{length-answer}
@@ -62,7 +63,7 @@ returns-3 c =
     let f = j .before .before in
     let a = f .before .before .before .args in
     let h = ap heldOf (j .join .ensures) ∙ held-kept (heldOf (a .line) ++ take (f .find .result) (a .piece .now)) in
-    goes-first (heldOf (a .line)) (a .piece .now) (a .out .now) (held-small (a .line .len) (a .line .bytes)) (f .find .result) (w .answer-held .result) (w .answer-held .last .1 .0) (g .go-on .last .1 .1 .0) (g .go-on .result) (f .find .ensures .0) (omega arith) (omega arith) (w .answer-held .ensures .0 ∙ ap (λ (l : List ℕ). length (answerOf l)) h) (w .answer-held .ensures .1 ∙ ap (λ (l : List ℕ). pasted (a .out .now) 0 (answerOf l)) h) (g .go-on .ensures)
+    goes-first (heldOf (a .line)) (a .piece .now) (a .out .now) (held-small (a .line .len) (a .line .bytes)) (f .find .result) (w .answer-held .result) (w .answer-held .last .1 .0) (g .go-on .last .1 .1 .0) (g .go-on .result) (f .find .ensures .0) (omega arith) (omega arith) (w .answer-held .ensures .0 ∙ ap (λ (l : List ℕ). length (answerOf builtin l)) h) (w .answer-held .ensures .1 ∙ ap (λ (l : List ℕ). pasted (a .out .now) 0 (answerOf builtin l)) h) (g .go-on .ensures)
 
 pub feed-spec : {M : Type 1} → statement M
 feed-spec =

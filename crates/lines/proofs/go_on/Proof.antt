@@ -4,13 +4,14 @@ use Prim.Native.Nat.{_-_}
 use native.Mathlib.Omega.{arith}
 use lib.ListN.{length, take, drop}
 use borrow.Author.Needs.{needs}
+use Rattle.leap.specs.Builtin.{builtin}
 use Rattle.lines.specs.Split.{fate, after}
 use Rattle.lines.proofs.Going.{Going, begins, stops-here, goes-on}
 use Rattle.lines.proofs.go_on.Statement.{statement}
 use Rattle.lines.proofs.go_on.Tie as tie
 
 abbrev Inv-loop : tie.InvT-loop
-Inv-loop piece from out₀ at begin₀ wrote₀ end₀ out begin wrote end = Going piece out₀ (after (take at out₀) from (fate [] (drop from piece) (length out₀ - at))) out begin wrote end
+Inv-loop piece from out₀ at begin₀ wrote₀ end₀ out begin wrote end = Going piece out₀ (after (take at out₀) from (fate builtin [] (drop from piece) (length out₀ - at))) out begin wrote end
 
 abbrev μ-loop : tie.MeasureT-loop
 μ-loop piece from out₀ at begin₀ wrote₀ end₀ out begin wrote end = length piece - end

@@ -2,7 +2,8 @@
 use native.Mathlib.Omega.{arith}
 use borrow.Author.Needs.{needs}
 use Rattle.scale.specs.Answers.{recorded}
-use Rattle.ascii.specs.Ascii.{bytesOf}
+use Rattle.leap.specs.Builtin.{builtin}
+use Rattle.codes.specs.Text.{letters}
 use Rattle.codes.specs.Setting.{defaultLayout}
 use Rattle.lines.proofs.Texts.{length-refused, length-code, Shown, refused-line, written-line}
 use Rattle.lines.proofs.print.Statement.{statement}
@@ -24,11 +25,11 @@ enum-known-written-2 c = search needs
 abbrev start : tie.After-written2 → tie.After-write
 start c = c .before .before .before .before
 
-shown : (c : tie.After-written2) → Shown (bytesOf defaultLayout (recorded (start c .before .before .before .args .r))) (start c .before .before .before .args .at) (start c .before .before .before .args .out .now) (start c .write .last .1 .1 .0) (c .written2 .given .0 .0)
+shown : (c : tie.After-written2) → Shown (letters builtin defaultLayout (recorded (start c .before .before .before .args .r))) (start c .before .before .before .args .at) (start c .before .before .before .args .out .now) (start c .write .last .1 .1 .0) (c .written2 .given .0 .0)
 shown c =
     let w = start c in
     let a = w .before .before .before .args in
-    written-line (bytesOf defaultLayout (recorded (a .r))) (a .at) (a .out .now) (omega arith) (length-code (recorded (a .r))) (c .written2 .given .0 .0) (w .write .last .1 .1 .0) (w .write .result) (c .written2 .given .1) (w .write .ensures)
+    written-line (letters builtin defaultLayout (recorded (a .r))) (a .at) (a .out .now) (omega arith) (length-code (recorded (a .r))) (c .written2 .given .0 .0) (w .write .last .1 .1 .0) (w .write .result) (c .written2 .given .1) (w .write .ensures)
 
 slice-write-out : tie.Need-slice-write-out
 slice-write-out c = shown (c .before) .within
@@ -45,7 +46,7 @@ returns c =
     let k = f .before .before .before in
     let w = k .before .before .before .before in
     let a = w .before .before .before .args in
-    let (e, g) = refused-line (bytesOf defaultLayout (recorded (a .r))) (a .at) (a .out .now) (omega arith) (length-code (recorded (a .r))) (k .written .given .0 .0) (w .write .last .1 .1 .0) (w .write .result) (k .written .given .1) (w .write .ensures) in
+    let (e, g) = refused-line (letters builtin defaultLayout (recorded (a .r))) (a .at) (a .out .now) (omega arith) (length-code (recorded (a .r))) (k .written .given .0 .0) (w .write .last .1 .1 .0) (w .write .result) (k .written .given .1) (w .write .ensures) in
     (rw (g, length-refused) (f .refuse .ensures .0), rw (g, ← e) (f .refuse .ensures .1))
 
 same-length-2 : tie.Need-same-length-2
