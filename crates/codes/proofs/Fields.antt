@@ -26,8 +26,8 @@ use Rattle.utc.specs.Reckoning.{reckons}
 use Rattle.utc.proofs.Lift.{read-of, written-of, lift-written, lift-read}
 use Rattle.codes.specs.Reading.{fieldOf, widthOf, ReadsIn}
 use Rattle.codes.specs.Writing.{bytesOf}
-use Rattle.codes.specs.declared.pfield.Layout.{Layout}
-use Rattle.codes.specs.declared.pfield.Layout.the-variants.{Cuc, Cds, Ccs}
+use Rattle.pfield.specs.declared.Layout.{Layout}
+use Rattle.pfield.specs.declared.Layout.the-variants.{Cuc, Cds, Ccs}
 
 -- a T-field is short
 cuc-low : (l : CucLayout) (b : Bool) → isCuc l ≡ b → cucWidth l ≤ 13

@@ -19,10 +19,11 @@ use Rattle.octets.specs.declared.Written.{Written}
 use Rattle.octets.specs.declared.Written.the-variants.{Done, Refused}
 use Rattle.octets.proofs.Pastes.{length-pasted}
 use Rattle.octets.proofs.Writes.{refuses, fills, room-in}
+use Rattle.pfield.specs.declared.PField.{PField}
 use Rattle.codes.specs.Writing.{codeOf, fronted}
 
 -- the room that a code needs is the same, counted from its T-field or from its P octet
-same-room : (d t : List ℕ) (p : ℕ) → need (hasRoom d 1 t) 8 (done (codeOf true p t)) ≡ roomed d 0 (codeOf true p t)
+same-room : (d t : List ℕ) (p : PField) → need (hasRoom d 1 t) 8 (done (codeOf true p t)) ≡ roomed d 0 (codeOf true p t)
 unfolding roomed
 same-room d t p = rw (zero-add, one-add)
 
@@ -31,7 +32,7 @@ given-refused : {A B : Type 0} (f : A → B) (x : Outcome A) (n : ℕ) → refus
 given-refused f (done a) n h = never n (f a) h
 given-refused f (refused m) n h = ap refused (refused-is m n (sym h))
 
-front-refused : (x : Outcome (List ℕ)) (d : List ℕ) (p n : ℕ) → andThen x (roomed d 1) ≡ refused n → andThen x (fronted true p d) ≡ refused n
+front-refused : (x : Outcome (List ℕ)) (d : List ℕ) (p : PField) (n : ℕ) → andThen x (roomed d 1) ≡ refused n → andThen x (fronted true p d) ≡ refused n
 unfolding roomed
 front-refused (refused m) d p n h = ap refused (refused-is m n h)
 front-refused (done t) d p n h = sym (same-room d t p) ∙ go (hasRoom d 1 t) h
@@ -43,14 +44,14 @@ front-refused (done t) d p n h = sym (same-room d t p) ∙ go (hasRoom d 1 t) h
 filled-refused : (x : Outcome (List ℕ)) (at n : ℕ) (d new : List ℕ) → x ≡ refused n → new ≡ filled at x d → new ≡ d
 filled-refused x at n d new h e = rw h at e
 
-pub fronts-refused : (x : Outcome (List ℕ)) (p : ℕ) (d new : List ℕ) (why : Refusal) → Wrote (andThen x (roomed d 1)) 1 d new (Refused why) → Wrote (andThen x (fronted true p d)) 0 d new (Refused why)
+pub fronts-refused : (x : Outcome (List ℕ)) (p : PField) (d new : List ℕ) (why : Refusal) → Wrote (andThen x (roomed d 1)) 1 d new (Refused why) → Wrote (andThen x (fronted true p d)) 0 d new (Refused why)
 fronts-refused x p d new why w =
     let h = given-refused (endOf 1) (andThen x (roomed d 1)) (number why) (w .answer) in
     let e : new ≡ d = filled-refused (andThen x (roomed d 1)) 1 (number why) d new h (w .bytes) in
     rw e (refuses why (andThen x (fronted true p d)) 0 d (front-refused x d p (number why) h))
 
 -- a stored T-field has room before it, and the P octet makes it a code
-set-front : (d t : List ℕ) (p : ℕ) → 0 < length d → set (pasted d 1 t) 0 p ≡ pasted d 0 (p ∷ t)
+set-front : (d t : List ℕ) (p : PField) → 0 < length d → set (pasted d 1 t) 0 (p .octet) ≡ pasted d 0 (p .octet ∷ t)
 unfolding pasted
 set-front [] t p h = absurd (omega arith)
 set-front (y ∷ d) t p h = rw (zero-add, one-add)
@@ -80,11 +81,11 @@ fronted-of x d new n w =
 pub fronted-long : (x : Outcome (List ℕ)) (d new : List ℕ) (n : ℕ) → Fronted x d new n → 0 < length new
 fronted-long x d new n f = let r = f .room in rw (f .bytes, length-pasted d 1 (f .field) r) (omega arith)
 
-pub fronts-done : (x : Outcome (List ℕ)) (p : ℕ) (d new : List ℕ) (n : ℕ) → Fronted x d new n → Wrote (andThen x (fronted true p d)) 0 d (set new 0 p) (Done n)
+pub fronts-done : (x : Outcome (List ℕ)) (p : PField) (d new : List ℕ) (n : ℕ) → Fronted x d new n → Wrote (andThen x (fronted true p d)) 0 d (set new 0 (p .octet)) (Done n)
 fronts-done x p d new n f =
     let t = f .field in
     let r = f .room in
-    fills (p ∷ t) (andThen x (fronted true p d)) 0 n d (set new 0 p)
-    (ap (λ (y : Outcome (List ℕ)). andThen y (fronted true p d)) (f .is) ∙ room-in (p ∷ t) 0 d (omega arith))
+    fills (p .octet ∷ t) (andThen x (fronted true p d)) 0 n d (set new 0 (p .octet))
+    (ap (λ (y : Outcome (List ℕ)). andThen y (fronted true p d)) (f .is) ∙ room-in (p .octet ∷ t) 0 d (omega arith))
     (omega (arith, f .ends))
-    (ap (λ (l : List ℕ). set l 0 p) (f .bytes) ∙ set-front d t p (omega arith))
+    (ap (λ (l : List ℕ). set l 0 (p .octet)) (f .bytes) ∙ set-front d t p (omega arith))

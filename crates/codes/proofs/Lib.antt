@@ -2,7 +2,6 @@ pub mod Parts
 pub mod Fronts
 pub mod Stamps
 pub mod Fields
-pub mod Layouts
 pub mod Promises
 pub mod Texts
 pub mod Range

@@ -3,13 +3,7 @@ use Rattle.base.specs.Outcome.{Outcome, done, refused}
 use Rattle.base.specs.Refusals.{number}
 use Rattle.scale.specs.Answers.{recorded}
 use Rattle.codes.specs.Reading.{Scanned, scanned}
-use Rattle.codes.specs.declared.pfield.Layout.{Layout}
-use Rattle.codes.specs.declared.pfield.LayoutAnswer as L
 use Rattle.codes.specs.declared.Reading as R
-
-abbrev pub saysLayout : L.LayoutAnswer → Outcome Layout
-saysLayout (L.the-variants.Done l) = done l
-saysLayout (L.the-variants.Refused why) = refused (number why)
 
 abbrev pub saysReading : R.Reading → Outcome Scanned
 saysReading (R.the-variants.Done r n) = done (scanned n (recorded r))

@@ -1,4 +1,3 @@
-pub mod PField
 pub mod Reading
 pub mod Writing
 pub mod Text

@@ -2,10 +2,8 @@
 use mathlib.Core.Path.{_≡_}
 use mathlib.Core.List.{List}
 use Prim.Native.Nat.{ℕ, _+_}
-use lib.Dec.{leb}
 use lib.IntN.{ℤ}
-use lib.ListN.{length, getD}
-use Rattle.base.specs.Outcome.{Outcome, done, refused, need, andThen, given}
+use Rattle.base.specs.Outcome.{Outcome, done, refused, andThen, given}
 use Rattle.scale.specs.Time.{Time}
 use Rattle.leap.specs.Table.{Table}
 use Rattle.leap.specs.Utc.{utcOfSecond}
@@ -14,11 +12,13 @@ use Rattle.utc.specs.Reckoning.{readBy}
 use Rattle.cuc.specs.Cuc as U
 use Rattle.cds.specs.Cds as D
 use Rattle.ccs.specs.Ccs as C
-use Rattle.codes.specs.PField.{laid}
-use Rattle.codes.specs.declared.pfield.Layout.{Layout}
-use Rattle.codes.specs.declared.pfield.Layout.the-variants.{Cuc, Cds, Ccs}
-use Rattle.codes.specs.declared.Preamble.{Preamble}
-use Rattle.codes.specs.declared.Preamble.the-variants.{Front, Given}
+use Rattle.pfield.specs.PField.{headedOf}
+use Rattle.pfield.specs.declared.PField.{PField}
+use Rattle.pfield.specs.declared.Codes.the-variants.{All}
+use Rattle.pfield.specs.declared.Layout.{Layout}
+use Rattle.pfield.specs.declared.Layout.the-variants.{Cuc, Cds, Ccs}
+use Rattle.pfield.specs.declared.Preamble.{Preamble}
+use Rattle.pfield.specs.declared.Preamble.the-variants.{Given}
 
 -- the time of the T-field from `at` on, by its code; a UTC code's by the table
 abbrev pub fieldOf : Table → List ℕ → ℕ → Layout → Outcome Time
@@ -55,19 +55,15 @@ scanned n m = record { moment = m; used = n }
 unfoldable pub scanIn : Table → List ℕ → ℕ → Layout → Outcome Scanned
 scanIn t s at l = given (scanned (at + widthOf l)) (fieldOf t s at l)
 
-unfoldable pub scanAt : Table → List ℕ → ℕ → ℕ → ℤ → Outcome Scanned
-scanAt t s at o e = andThen (laid o e) (scanIn t s at)
-
--- "A P octet is read from the front or supplied by the caller apart"
+-- "missing P 1, then 2, 3, epoch 7": the P-field says where the T-field is and how it is laid out
 unfoldable pub scanOf : Table → List ℕ → Preamble → ℤ → Outcome Scanned
-scanOf t s (Given o) e = scanAt t s 0 o e
-scanOf t s Front e = need (leb 1 (length s)) 1 (scanAt t s 1 (getD s 0 0) e)
+scanOf t s p e = andThen (headedOf All s p e) (λ h. scanIn t s (h .start) (h .layout))
 
 -- how many bytes a reading took: none where it was refused
 abbrev pub usedOf : Outcome Scanned → ℕ
 usedOf (done x) = x .used
 usedOf (refused n) = 0
 
--- the times that can be read under a P octet and an epoch
-abbrev pub Readable : Table → ℕ → ℤ → Time → Type 0
-Readable t o e x = (s : List ℕ) × ((n : ℕ) × (scanOf t s (Given o) e ≡ done (scanned n x)))
+-- the times that can be read under a P-field and an epoch
+abbrev pub Readable : Table → PField → ℤ → Time → Type 0
+Readable t p e x = (s : List ℕ) × ((n : ℕ) × (scanOf t s (Given p) e ≡ done (scanned n x)))

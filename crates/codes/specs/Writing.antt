@@ -11,11 +11,13 @@ use Rattle.utc.specs.Reckoning.{writtenBy}
 use Rattle.cuc.specs.Cuc as U
 use Rattle.cds.specs.Cds as D
 use Rattle.ccs.specs.Ccs as C
-use Rattle.codes.specs.PField.{laid}
-use Rattle.codes.specs.declared.Preamble.{Preamble}
-use Rattle.codes.specs.declared.Preamble.the-variants.{Front, Given}
-use Rattle.codes.specs.declared.pfield.Layout.{Layout}
-use Rattle.codes.specs.declared.pfield.Layout.the-variants.{Cuc, Cds, Ccs}
+use Rattle.pfield.specs.PField.{laid}
+use Rattle.pfield.specs.declared.PField.{PField}
+use Rattle.pfield.specs.declared.Codes.the-variants.{All}
+use Rattle.pfield.specs.declared.Preamble.{Preamble}
+use Rattle.pfield.specs.declared.Preamble.the-variants.{Front, Given}
+use Rattle.pfield.specs.declared.Layout.{Layout}
+use Rattle.pfield.specs.declared.Layout.the-variants.{Cuc, Cds, Ccs}
 
 -- the T-field of a time, by its code; for a UTC code the table comes first, the layout being judged by `laid`
 abbrev pub bytesOf : Table → Layout → Time → Outcome (List ℕ)
@@ -24,18 +26,18 @@ bytesOf t (Cds l) r = writtenBy t (D.bytesOf l) r
 bytesOf t (Ccs l) r = writtenBy t (C.bytesOf l) r
 
 -- "whether the octet is written"
-abbrev pub codeOf : Bool → ℕ → List ℕ → List ℕ
-codeOf true o t = o ∷ t
-codeOf false o t = t
+abbrev pub codeOf : Bool → PField → List ℕ → List ℕ
+codeOf true p c = p .octet ∷ c
+codeOf false p c = c
 
 -- .. where the lent bytes have room for the code
-abbrev pub fronted : Bool → ℕ → List ℕ → List ℕ → Outcome (List ℕ)
-fronted front o out t = roomed out 0 (codeOf front o t)
+abbrev pub fronted : Bool → PField → List ℕ → List ℕ → Outcome (List ℕ)
+fronted front p out c = roomed out 0 (codeOf front p c)
 
-unfoldable pub writeOf : Table → Time → ℕ → ℤ → Bool → List ℕ → Outcome (List ℕ)
-writeOf t r o e front out = need (isRecord r) 7 (andThen (laid o e) (λ l. andThen (bytesOf t l r) (fronted front o out)))
+unfoldable pub writeOf : Table → Time → PField → ℤ → Bool → List ℕ → Outcome (List ℕ)
+writeOf t r p e front out = need (isRecord r) 7 (andThen (laid All p e) (λ l. andThen (bytesOf t l r) (fronted front p out)))
 
--- where the P octet of a written code is read from
-abbrev pub from : Bool → ℕ → Preamble
-from true o = Front
-from false o = Given o
+-- where the P-field of a written code is read from
+abbrev pub from : Bool → PField → Preamble
+from true p = Front
+from false p = Given p

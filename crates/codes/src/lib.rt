@@ -1,14 +1,17 @@
 // All codes: the binary ones CUC, CDS and CCS read from bytes and written into lent ones; ASCII in the module text,
 // settings in the module setting. Here the UTC codes meet the leap second table.
-pub mod pfield;
 pub mod setting;
 pub mod text;
 
 use base::Refusal;
 use moment::MomentAnswer;
 use octets::Written;
+use pfield::Codes;
+use pfield::Head;
 use pfield::Layout;
 use pfield::LayoutAnswer;
+use pfield::PField;
+use pfield::Preamble;
 use scale::Record;
 use scale::RecordAnswer;
 ghost use mathlib.Core.Path.{_≡_};
@@ -22,15 +25,9 @@ ghost use Rattle.leap.specs.Builtin.{builtin};
 ghost use Rattle.utc.specs.Reckoning.{writtenBy};
 ghost use Rattle.cds.specs.Cds as D;
 ghost use Rattle.ccs.specs.Ccs as C;
-ghost use Rattle.codes.specs.Reading.{scanned, fieldOf, scanIn, scanAt, scanOf, usedOf};
+ghost use Rattle.codes.specs.Reading.{scanned, scanIn, scanOf, usedOf};
 ghost use Rattle.codes.specs.Writing.{bytesOf, fronted, writeOf};
 ghost use Rattle.codes.specs.Answers.{saysReading};
-
-// Where the P octet is: in front of the bytes, or supplied apart.
-pub enum Preamble {
-    Front,
-    Given(u8),
-}
 
 // A moment and how many bytes its code takes.
 pub enum Reading {
@@ -57,15 +54,9 @@ pub fn read<'a>(s: &'a [u8], p: Preamble, epoch: i64) -> Taken<'a>
 pub fn scan(s: &[u8], p: Preamble, epoch: i64) -> Reading
     ensures { λ r. ⌜ saysReading r ≡ scanOf builtin (now (s .entry)) p epoch ⌝ }
 {
-    match p {
-        Preamble::Given(o) => scan_at(s, 0, o, epoch),
-        Preamble::Front => {
-            if s.len() < 1 {
-                return Reading::Refused(Refusal::Short);
-            }
-            let o = s[0];
-            scan_at(s, 1, o, epoch)
-        }
+    match pfield::read(s, p, Codes::All, epoch) {
+        Head::Refused(why) => Reading::Refused(why),
+        Head::Done(l, at) => field(s, at, l),
     }
 }
 
@@ -85,14 +76,14 @@ pub fn unread<'a>(s: &'a [u8], a: Reading) -> &'a [u8]
     }
 }
 
-// Writes a moment under a P octet and an epoch, with the octet in front or without it.
-pub fn write_binary(r: Record, p: u8, epoch: i64, front: bool, out: &mut [u8]) -> Written
+// Writes a moment under a P-field and an epoch, with the field in front or without it.
+pub fn write_binary(r: Record, p: PField, epoch: i64, front: bool, out: &mut [u8]) -> Written
     ensures { λ a. ⌜ Wrote (writeOf builtin (recorded r) p epoch front (now (out .entry))) 0 (now (out .entry)) (now (out .exit)) a ⌝ }
 {
     if !r.valid() {
         return Written::Refused(Refusal::Range);
     }
-    match pfield::lay(p, epoch) {
+    match pfield::lay(p, Codes::All, epoch) {
         LayoutAnswer::Refused(why) => Written::Refused(why),
         LayoutAnswer::Done(l) => {
             if front {
@@ -103,17 +94,7 @@ pub fn write_binary(r: Record, p: u8, epoch: i64, front: bool, out: &mut [u8]) -
     }
 }
 
-// The T-field that starts at `at`, under the P octet o.
-fn scan_at(s: &[u8], at: usize, o: u8, epoch: i64) -> Reading
-    requires { ⌜ at ≤ 1 ⌝ }
-    ensures { λ r. ⌜ saysReading r ≡ scanAt builtin (now (s .entry)) at o epoch ⌝ }
-{
-    match pfield::lay(o, epoch) {
-        LayoutAnswer::Refused(why) => Reading::Refused(why),
-        LayoutAnswer::Done(l) => field(s, at, l),
-    }
-}
-
+// The T-field that starts at `at`.
 fn field(s: &[u8], at: usize, l: Layout) -> Reading
     requires { ⌜ at ≤ 1 ⌝ }
     ensures { λ r. ⌜ saysReading r ≡ scanIn builtin (now (s .entry)) at l ⌝ }
@@ -163,14 +144,14 @@ fn put_ccs(r: Record, l: ccs::Layout, out: &mut [u8], at: usize) -> Written
     }
 }
 
-// The same behind its P octet, which is stored once the T-field has found room.
-fn put_fronted(r: Record, p: u8, l: Layout, out: &mut [u8]) -> Written
+// The same behind its P-field, which is stored once the T-field has found room.
+fn put_fronted(r: Record, p: PField, l: Layout, out: &mut [u8]) -> Written
     ensures { λ a. ⌜ Wrote (andThen (bytesOf builtin l (recorded r)) (fronted true p (now (out .entry)))) 0 (now (out .entry)) (now (out .exit)) a ⌝ }
 {
     match put(r, l, out, 1) {
         Written::Refused(why) => Written::Refused(why),
         Written::Done(n) => {
-            out[0] = p;
+            out[0] = p.octet;
             Written::Done(n)
         }
     }

@@ -1,14 +1,15 @@
 // Settings: how a moment is to be written.
 use octets::Written;
+use pfield::PField;
 use scale::Record;
 ghost use Rattle.scale.specs.Answers.{recorded};
 ghost use Rattle.octets.specs.Writes.{Wrote};
 ghost use Rattle.leap.specs.Builtin.{builtin};
 ghost use Rattle.codes.specs.Setting.{written, wallOf};
 
-// A P octet with epoch and whether it is written, or the layout of an ASCII code.
+// A P-field with epoch and whether it is written, or the layout of an ASCII code.
 pub enum Setting {
-    Binary { p: u8, epoch: i64, front: bool },
+    Binary { p: PField, epoch: i64, front: bool },
     Ascii(ascii::Layout),
 }
 

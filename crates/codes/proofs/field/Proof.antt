@@ -3,7 +3,7 @@ use borrow.Author.Needs.{needs}
 use mathlib.Core.Path.{_≡_, refl, sym, ap, _∙_}
 use native.Mathlib.Omega.{arith}
 use Rattle.leap.specs.Builtin.{builtin}
-use Rattle.codes.specs.declared.pfield.Layout.the-variants.{Cuc, Cds, Ccs}
+use Rattle.pfield.specs.declared.Layout.the-variants.{Cuc, Cds, Ccs}
 use Rattle.codes.specs.Reading.{scanIn}
 use Rattle.codes.proofs.Fields.{width-low}
 use Rattle.codes.proofs.field.Statement.{statement}

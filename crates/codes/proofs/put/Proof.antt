@@ -5,7 +5,7 @@ use Rattle.base.specs.Outcome.{andThen}
 use Rattle.scale.specs.Answers.{recorded}
 use Rattle.octets.specs.Writes.{roomed, Wrote}
 use Rattle.leap.specs.Builtin.{builtin}
-use Rattle.codes.specs.declared.pfield.Layout.{Layout}
+use Rattle.pfield.specs.declared.Layout.{Layout}
 use Rattle.codes.specs.Writing.{bytesOf}
 use Rattle.codes.proofs.put.Statement.{statement}
 use Rattle.codes.proofs.put.Tie as tie

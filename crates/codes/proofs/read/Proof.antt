@@ -49,13 +49,13 @@ use Rattle.codes.specs.Reading.{Scanned, scanOf, usedOf}
 use Rattle.codes.specs.Answers.{saysReading}
 use Rattle.codes.specs.declared.Taken.{Taken}
 use Rattle.codes.specs.declared.Reading.{Reading}
-use Rattle.codes.specs.declared.Preamble.{Preamble}
+use Rattle.pfield.specs.declared.Preamble.{Preamble}
 use Rattle.codes.proofs.Taken as T
 use Rattle.codes.proofs.Taken.Laws as T′
 use Rattle.codes.proofs.Reading as R
 use Rattle.codes.proofs.Reading.Laws as R′
-use Rattle.codes.proofs.Preamble as P
-use Rattle.codes.proofs.Preamble.Laws as P′
+use Rattle.pfield.proofs.Preamble as P
+use Rattle.pfield.proofs.Preamble.Laws as P′
 use Rattle.codes.proofs.scan as scan
 use Rattle.codes.proofs.scan.Symbol as scan-def
 use Rattle.codes.proofs.scan.Symbol.{name as #codes·scan}

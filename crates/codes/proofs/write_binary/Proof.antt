@@ -16,16 +16,18 @@ use Rattle.octets.specs.Writes.{Wrote}
 use Rattle.octets.specs.declared.Written.{Written}
 use Rattle.octets.proofs.Writes.{refuses}
 use Rattle.leap.specs.Builtin.{builtin}
-use Rattle.codes.specs.declared.pfield.Layout.{Layout}
-use Rattle.codes.specs.declared.pfield.LayoutAnswer.{LayoutAnswer}
-use Rattle.codes.specs.PField.{laid}
+use Rattle.pfield.specs.declared.Layout.{Layout}
+use Rattle.pfield.specs.declared.LayoutAnswer.{LayoutAnswer}
+use Rattle.pfield.specs.PField.{laid}
+use Rattle.pfield.specs.declared.PField.{PField}
+use Rattle.pfield.specs.declared.Codes.the-variants.{All}
 use Rattle.codes.specs.Writing.{bytesOf, fronted, writeOf}
-use Rattle.codes.specs.Answers.{saysLayout}
+use Rattle.pfield.specs.Answers.{saysLayout}
 use Rattle.codes.proofs.write_binary.Statement.{statement}
 use Rattle.codes.proofs.write_binary.Tie as tie
 
 -- past the record, what is left goes by the layout
-by-layout : (r : Time) (o : ℕ) (e : ℤ) (front : Bool) (d : List ℕ) (x : Outcome Layout) → isRecord r ≡ true → laid o e ≡ x → writeOf builtin r o e front d ≡ andThen x (λ l. andThen (bytesOf builtin l r) (fronted front o d))
+by-layout : (r : Time) (o : PField) (e : ℤ) (front : Bool) (d : List ℕ) (x : Outcome Layout) → isRecord r ≡ true → laid All o e ≡ x → writeOf builtin r o e front d ≡ andThen x (λ l. andThen (bytesOf builtin l r) (fronted front o d))
 unfolding writeOf
 by-layout r o e front d x v p = need-yes 7 _ v ∙ ap (λ (y : Outcome Layout). andThen y (λ l. andThen (bytesOf builtin l r) (fronted front o d))) p
 

@@ -1,4 +1,4 @@
--- `codes::pfield::lay_ccs` meets its contract.
+-- `pfield::lay_ccs` meets its contract.
 use mathlib.Core.Path.{_≡_, refl, sym, ap, _∙_}
 use mathlib.Core.Bool.{Bool, true, false, cond, _||_}
 use Prim.Native.Nat.{ℕ, _+_, _*_, _/_, _%_, _^_, _<_, _≤_}
@@ -6,9 +6,9 @@ use native.Mathlib.Omega.{arith}
 use borrow.Author.Needs.{needs}
 use borrow.Author.Tests.{lt-ltb, le-ltb, eq-eqb, ne-eqb, not-true, not-false}
 use Rattle.base.proofs.Ladders.{need-yes, need-no}
-use Rattle.codes.specs.PField.{ccsLaid}
-use Rattle.codes.proofs.pfield.lay_ccs.Statement.{statement}
-use Rattle.codes.proofs.pfield.lay_ccs.Tie as tie
+use Rattle.pfield.specs.PField.{ccsLaid}
+use Rattle.pfield.proofs.lay_ccs.Statement.{statement}
+use Rattle.pfield.proofs.lay_ccs.Tie as tie
 
 cast-segments : tie.Need-cast-segments
 cast-segments c = search needs

@@ -1,4 +1,4 @@
--- `codes::pfield::lay_cds` meets its contract.
+-- `pfield::lay_cds` meets its contract.
 use mathlib.Core.Path.{_≡_, refl, sym, ap, _∙_}
 use mathlib.Core.Bool.{Bool, true, false, cond, _||_}
 use Prim.Native.Nat.{ℕ, _+_, _*_, _/_, _%_, _^_, _<_, _≤_}
@@ -11,9 +11,9 @@ use mir.Val.{toZ, ofZ}
 use Rattle.base.proofs.Ladders.{need-yes, need-no}
 use Rattle.base.proofs.Signed.{back}
 use Rattle.cds.specs.Cds.{isEpochDay}
-use Rattle.codes.specs.PField.{ident, bit4, cdsLaid}
-use Rattle.codes.proofs.pfield.lay_cds.Statement.{statement}
-use Rattle.codes.proofs.pfield.lay_cds.Tie as tie
+use Rattle.pfield.specs.PField.{ident, bit4, cdsLaid}
+use Rattle.pfield.proofs.lay_cds.Statement.{statement}
+use Rattle.pfield.proofs.lay_cds.Tie as tie
 
 cast-day : tie.Need-cast-day
 cast-day c = search needs

@@ -1,4 +1,4 @@
--- `codes::pfield::lay_cuc` meets its contract.
+-- `pfield::lay_cuc` meets its contract.
 use mathlib.Core.Path.{_≡_, refl, sym, ap, _∙_}
 use mathlib.Core.Bool.{Bool, true, false, cond, _||_}
 use Prim.Native.Nat.{ℕ, _+_, _*_, _/_, _%_, _^_, _<_, _≤_}
@@ -11,9 +11,9 @@ use mir.Val.{toZ, ofZ}
 use Rattle.base.proofs.Ladders.{need-yes, need-no}
 use Rattle.base.proofs.Signed.{back}
 use Rattle.cuc.specs.Cuc.{isEpoch}
-use Rattle.codes.specs.PField.{ident, bit4, cucLaid}
-use Rattle.codes.proofs.pfield.lay_cuc.Statement.{statement}
-use Rattle.codes.proofs.pfield.lay_cuc.Tie as tie
+use Rattle.pfield.specs.PField.{ident, bit4, cucLaid}
+use Rattle.pfield.proofs.lay_cuc.Statement.{statement}
+use Rattle.pfield.proofs.lay_cuc.Tie as tie
 
 cast-coarse : tie.Need-cast-coarse
 cast-coarse c = search needs

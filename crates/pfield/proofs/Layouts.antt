@@ -14,9 +14,11 @@ use Rattle.cuc.specs.Cuc.{isEpoch, isLayout as isCuc}
 use Rattle.cds.specs.Cds.{isEpochDay, isWidth as isCdsWidth, isLayout as isCds}
 use Rattle.ccs.specs.Ccs.{isLayout as isCcs}
 use Rattle.cuc.proofs.Layouts.{layout-yes}
-use Rattle.codes.specs.declared.pfield.Layout.{Layout}
-use Rattle.codes.specs.declared.pfield.Layout.the-variants.{Cuc, Cds, Ccs}
-use Rattle.codes.specs.PField.{ident, known, bit4, cucLaid, cdsLaid, ccsLaid, laid}
+use Rattle.pfield.specs.declared.PField.{PField}
+use Rattle.pfield.specs.declared.Codes.{Codes}
+use Rattle.pfield.specs.declared.Layout.{Layout}
+use Rattle.pfield.specs.declared.Layout.the-variants.{Cuc, Cds, Ccs}
+use Rattle.pfield.specs.PField.{ident, allows, bit4, cucLaid, cdsLaid, ccsLaid, laidAs, laid}
 
 abbrev pub isLayoutOf : Layout → Bool
 isLayoutOf (Cuc l) = isCuc l
@@ -68,9 +70,10 @@ by-kind o e l true b h = ccs-good o l h
 by-kind o e l false true h = cds-good o e l h
 by-kind o e l false false h = cuc-good o e l h
 
-pub laid-good : (o : ℕ) (e : ℤ) (l : Layout) → laid o e ≡ done l → isLayoutOf l ≡ true
-unfolding laid
-laid-good o e l h =
-    let (k, h₁) = need-done (known (ident o)) 2 _ l h in
+pub laid-good : (c : Codes) (p : PField) (e : ℤ) (l : Layout) → laid c p e ≡ done l → isLayoutOf l ≡ true
+unfolding laid laidAs
+laid-good c p e l h =
+    let o = p .octet in
+    let (k, h₁) = need-done (allows c (ident o)) 2 _ l h in
     let (s, h₂) = need-done (ltb o 128) 3 _ l h₁ in
     by-kind o e l (eqb (ident o) 5) (eqb (ident o) 4) h₂

@@ -1,0 +1,2 @@
+pub mod PField
+pub mod Answers
