@@ -1,10 +1,12 @@
 // The binary codes, read and written.
 use codes::Reading;
+use pfield::PField;
 use scale::Record;
 ghost use mathlib.Core.Path.{_≡_};
 ghost use Rattle.base.specs.Outcome.{status, cell};
 ghost use Rattle.octets.specs.Writes.{filled};
 ghost use Rattle.leap.specs.Builtin.{builtin};
+ghost use Rattle.pfield.specs.PField.{octet};
 ghost use Rattle.codes.specs.Reading.{scanOf};
 ghost use Rattle.codes.specs.Writing.{writeOf, from};
 ghost use Rattle.codes.specs.Answers.{saysReading};
@@ -21,10 +23,10 @@ pub extern "C" fn hz_read_binary(
     ticks: &mut u64,
     used: &mut usize,
 ) -> u8
-    ensures answer { λ r. ⌜ r ≡ status (scanOf builtin (now (bytes .entry)) (from front p) epoch) ⌝ }
-    ensures seconds { λ _. ⌜ now (sec .exit) ≡ cell scannedSec (scanOf builtin (now (bytes .entry)) (from front p) epoch) (now (sec .entry)) ⌝ }
-    ensures parts { λ _. ⌜ now (ticks .exit) ≡ cell scannedTicks (scanOf builtin (now (bytes .entry)) (from front p) epoch) (now (ticks .entry)) ⌝ }
-    ensures count { λ _. ⌜ now (used .exit) ≡ cell scannedUsed (scanOf builtin (now (bytes .entry)) (from front p) epoch) (now (used .entry)) ⌝ }
+    ensures answer { λ r. ⌜ r ≡ status (scanOf builtin (now (bytes .entry)) (from front (octet p)) epoch) ⌝ }
+    ensures seconds { λ _. ⌜ now (sec .exit) ≡ cell scannedSec (scanOf builtin (now (bytes .entry)) (from front (octet p)) epoch) (now (sec .entry)) ⌝ }
+    ensures parts { λ _. ⌜ now (ticks .exit) ≡ cell scannedTicks (scanOf builtin (now (bytes .entry)) (from front (octet p)) epoch) (now (ticks .entry)) ⌝ }
+    ensures count { λ _. ⌜ now (used .exit) ≡ cell scannedUsed (scanOf builtin (now (bytes .entry)) (from front (octet p)) epoch) (now (used .entry)) ⌝ }
 {
     let preamble = super::preambles::preamble_of(front, p);
     let a = codes::scan(bytes, preamble, epoch);
@@ -62,14 +64,14 @@ pub extern "C" fn hz_write_binary(
     out: &mut [u8],
     written: &mut usize,
 ) -> u8
-    ensures answer { λ r. ⌜ r ≡ status (writeOf builtin (time sec ticks) p epoch front (now (out .entry))) ⌝ }
-    ensures bytes { λ _. ⌜ now (out .exit) ≡ filled 0 (writeOf builtin (time sec ticks) p epoch front (now (out .entry))) (now (out .entry)) ⌝ }
-    ensures count { λ _. ⌜ now (written .exit) ≡ cell lengthOf (writeOf builtin (time sec ticks) p epoch front (now (out .entry))) (now (written .entry)) ⌝ }
+    ensures answer { λ r. ⌜ r ≡ status (writeOf builtin (time sec ticks) (octet p) epoch front (now (out .entry))) ⌝ }
+    ensures bytes { λ _. ⌜ now (out .exit) ≡ filled 0 (writeOf builtin (time sec ticks) (octet p) epoch front (now (out .entry))) (now (out .entry)) ⌝ }
+    ensures count { λ _. ⌜ now (written .exit) ≡ cell lengthOf (writeOf builtin (time sec ticks) (octet p) epoch front (now (out .entry))) (now (written .entry)) ⌝ }
 {
     let r = Record {
         sec: sec,
         ticks: ticks,
     };
-    let a = codes::write_binary(r, p, epoch, front, out);
+    let a = codes::write_binary(r, PField { octet: p }, epoch, front, out);
     super::answers::give_length(a, written)
 }

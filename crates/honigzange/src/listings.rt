@@ -5,6 +5,7 @@ ghost use mathlib.Core.Path.{_≡_};
 ghost use Rattle.base.specs.Outcome.{status, cell, given};
 ghost use Rattle.window.specs.Window.{saysListing, listed, leaves};
 ghost use Rattle.leap.specs.Builtin.{builtin};
+ghost use Rattle.pfield.specs.PField.{octet};
 ghost use Rattle.codes.specs.Writing.{from};
 ghost use Rattle.tags.specs.CucTag.{listCuc};
 ghost use Rattle.tags.specs.AsciiTag.{listAscii};
@@ -26,11 +27,11 @@ pub extern "C" fn hz_list_cuc(
     count: &mut usize,
     more: &mut bool,
 ) -> u8
-    ensures answer { λ r. ⌜ r ≡ status (listCuc (now (tag .entry)) (from front p) epoch (time begin beginticks) (time end endticks)) ⌝ }
-    ensures seconds { λ _. ⌜ now (list .exit) ≡ leaves (listCuc (now (tag .entry)) (from front p) epoch (time begin beginticks) (time end endticks)) (now (list .entry)) ⌝ }
-    ensures parts { λ _. ⌜ now (ticks .exit) ≡ cell listedTicks (given (listed (now (list .entry))) (listCuc (now (tag .entry)) (from front p) epoch (time begin beginticks) (time end endticks))) (now (ticks .entry)) ⌝ }
-    ensures number { λ _. ⌜ now (count .exit) ≡ cell listedCount (given (listed (now (list .entry))) (listCuc (now (tag .entry)) (from front p) epoch (time begin beginticks) (time end endticks))) (now (count .entry)) ⌝ }
-    ensures further { λ _. ⌜ now (more .exit) ≡ cell listedMore (given (listed (now (list .entry))) (listCuc (now (tag .entry)) (from front p) epoch (time begin beginticks) (time end endticks))) (now (more .entry)) ⌝ }
+    ensures answer { λ r. ⌜ r ≡ status (listCuc (now (tag .entry)) (from front (octet p)) epoch (time begin beginticks) (time end endticks)) ⌝ }
+    ensures seconds { λ _. ⌜ now (list .exit) ≡ leaves (listCuc (now (tag .entry)) (from front (octet p)) epoch (time begin beginticks) (time end endticks)) (now (list .entry)) ⌝ }
+    ensures parts { λ _. ⌜ now (ticks .exit) ≡ cell listedTicks (given (listed (now (list .entry))) (listCuc (now (tag .entry)) (from front (octet p)) epoch (time begin beginticks) (time end endticks))) (now (ticks .entry)) ⌝ }
+    ensures number { λ _. ⌜ now (count .exit) ≡ cell listedCount (given (listed (now (list .entry))) (listCuc (now (tag .entry)) (from front (octet p)) epoch (time begin beginticks) (time end endticks))) (now (count .entry)) ⌝ }
+    ensures further { λ _. ⌜ now (more .exit) ≡ cell listedMore (given (listed (now (list .entry))) (listCuc (now (tag .entry)) (from front (octet p)) epoch (time begin beginticks) (time end endticks))) (now (more .entry)) ⌝ }
 {
     let since = Record {
         sec: begin,

@@ -20,13 +20,12 @@ use Rattle.cds.specs.Cds as D
 use Rattle.ccs.specs.Ccs as C
 use Rattle.ascii.specs.Shapes.{shapes, shaped}
 use Rattle.ascii.specs.Ascii as A
-use Rattle.codes.specs.PField.{laid, cucLaid, cdsLaid, ccsLaid}
-use Rattle.codes.specs.PField as P
-use Rattle.codes.specs.Reading.{scanIn, scanAt, scanOf}
+use Rattle.pfield.specs.PField.{allows, laid, laidAs, cucLaid, cdsLaid, ccsLaid, headedOf}
+use Rattle.codes.specs.Reading.{scanIn, scanOf}
 use Rattle.codes.specs.Writing.{writeOf}
 use Rattle.codes.specs.Text.{letters}
 use Rattle.tags.specs.Records.{startAt, momentsIn}
-use Rattle.tags.specs.CucTag.{isCuc, tagWith, tagIn, tagAt, tagOf, listPeriodic, listCuc}
+use Rattle.tags.specs.CucTag.{tagWith, tagIn, tagOf, listPeriodic, listCuc}
 use Rattle.known.specs.Known.{Line, answer, table}
 
 pub known-times : map (λ (l : Line). answer (l .call)) table ≡ map (λ (l : Line). l .says) table
@@ -39,6 +38,6 @@ unfolding table
     D.isWidth D.width D.timed D.field D.held D.laid D.bytesOf
     C.width C.dayAt C.clockAt C.field C.dateText C.clockText C.bytesOf
     shapes shaped A.layoutOf A.dayAt A.clockAt A.fieldsOf A.text A.dayText A.clockText A.codeText A.bytesOf
-    P.known laid cucLaid cdsLaid ccsLaid scanIn scanAt scanOf writeOf
-    listed filled firstSecond names namedIn filter consIf range up startAt momentsIn isCuc tagWith tagIn tagAt tagOf listPeriodic listCuc
+    allows laid laidAs cucLaid cdsLaid ccsLaid headedOf scanIn scanOf writeOf
+    listed filled firstSecond names namedIn filter consIf range up startAt momentsIn tagWith tagIn tagOf listPeriodic listCuc
 known-times = refl

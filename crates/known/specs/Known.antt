@@ -13,7 +13,8 @@ use Rattle.leap.specs.Builtin.{builtin}
 use Rattle.codes.specs.Text.{textOf}
 use Rattle.codes.specs.Reading.{Scanned, scanOf}
 use Rattle.codes.specs.Setting.{written}
-use Rattle.codes.specs.declared.Preamble.the-variants.{Front}
+use Rattle.pfield.specs.PField.{octet}
+use Rattle.pfield.specs.declared.Preamble.the-variants.{Front}
 use Rattle.codes.specs.declared.setting.Setting.{Setting}
 use Rattle.codes.specs.declared.setting.Setting.the-variants.{Binary, Ascii}
 use Rattle.tags.specs.CucTag.{listCuc}
@@ -80,7 +81,7 @@ read t n = taken (record { moment = t; used = n })
 
 -- under a P octet, with the octet in front; the epoch is 1958
 abbrev pub binary : ℕ → Setting
-binary p = Binary p (pos 0) true
+binary p = Binary (octet p) (pos 0) true
 
 -- form B, 6 digits, Z
 abbrev pub formB : Setting

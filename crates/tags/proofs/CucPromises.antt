@@ -27,14 +27,17 @@ use Rattle.cuc.specs.declared.Layout as U
 use Rattle.cuc.proofs.Fields.{counted-lt}
 use Rattle.cuc.proofs.Layouts.{layout-good}
 use Rattle.cuc.proofs.Promises.{read-width}
-use Rattle.codes.specs.PField.{ident, laid}
-use Rattle.codes.specs.declared.Preamble.{Preamble}
-use Rattle.codes.specs.declared.Preamble.the-variants.{Front, Given}
-use Rattle.codes.specs.declared.pfield.Layout.{Layout}
-use Rattle.codes.specs.declared.pfield.Layout.the-variants.{Cuc, Cds, Ccs}
-use Rattle.codes.proofs.Layouts.{laid-good}
+use Rattle.pfield.specs.PField.{laid, Headed, octet, headedOf}
+use Rattle.pfield.specs.declared.PField.{PField}
+use Rattle.pfield.specs.declared.Codes.the-variants as Codes
+use Rattle.pfield.proofs.Heads.{given-head, octet-head}
+use Rattle.pfield.specs.declared.Preamble.{Preamble}
+use Rattle.pfield.specs.declared.Preamble.the-variants.{Front, Given}
+use Rattle.pfield.specs.declared.Layout.{Layout}
+use Rattle.pfield.specs.declared.Layout.the-variants.{Cuc, Cds, Ccs}
+use Rattle.pfield.proofs.Layouts.{laid-good}
 use Rattle.tags.specs.Records.{momentsIn, IsListed, Inside, Sooner, joined}
-use Rattle.tags.specs.CucTag.{Periodic, isCuc, tagWith, tagIn, tagAt, tagOf, listPeriodic, listCuc, Names, CutTo}
+use Rattle.tags.specs.CucTag.{Periodic, tagWith, tagIn, tagOf, listPeriodic, listCuc, Names, CutTo}
 use Rattle.tags.specs.Inner.{Short}
 use Rattle.tags.proofs.Windows.{Ordered, windowed-told, windowed-yes, ordered-then}
 use Rattle.tags.proofs.Records.{inside-valid, listed-named, named-listed, ascends, adjoins}
@@ -115,10 +118,10 @@ module _ (s : List ℕ) (p : Preamble) (e : ℤ) (g : Periodic) (says : tagOf s 
       ∙ ap done (adjoins (2 ^ 41) _ (g .first .ticks) a b c (low a b o) (o .in-order) (r .in-order)))
 
 -- ---- the tag: its P octet and exactly its T-field
--- what a tag from `at` on under the P octet o was made of
-pub record Made (s : List ℕ) (at o : ℕ) (e : ℤ) (g : Periodic) : Type 0 where
+-- what a tag from `at` on under the P-field o was made of
+pub record Made (s : List ℕ) (at : ℕ) (o : PField) (e : ℤ) (g : Periodic) : Type 0 where
   pub layout : U.Layout
-  pub lays : laid o e ≡ done (Cuc layout)
+  pub lays : laid Codes.Cuc o e ≡ done (Cuc layout)
   pub count : ℕ
   pub counts : countAt s at (width layout) ≡ C.Done count
   pub ends : at + width layout ≡ length s
@@ -129,7 +132,7 @@ says-done (C.Done n) t e = ap C.Done (done-is n t e)
 says-done C.Bad t e = never 4 t e
 says-done C.Out t e = never 1 t e
 
-made-with : (s : List ℕ) (at o : ℕ) (e : ℤ) (l : U.Layout) (g : Periodic) (m : Time) → laid o e ≡ done (Cuc l) → field s at l ≡ done m → whole s at l m ≡ done g → Made s at o e g
+made-with : (s : List ℕ) (at : ℕ) (o : PField) (e : ℤ) (l : U.Layout) (g : Periodic) (m : Time) → laid Codes.Cuc o e ≡ done (Cuc l) → field s at l ≡ done m → whole s at l m ≡ done g → Made s at o e g
 unfolding field
 made-with s at o e l g m p f h =
     let (long, i) = need-done (leb (length s) (at + width l)) 4 (done (record { first = m; period = 256 ^ l .coarse })) g h in
@@ -144,31 +147,30 @@ made-with s at o e l g m p f h =
       is = ap (λ (z : Time). record { first = z; period = 256 ^ l .coarse }) j ∙ done-is _ g i;
     }
 
-made-in : (s : List ℕ) (at o : ℕ) (e : ℤ) (l : Layout) (g : Periodic) → laid o e ≡ done l → tagIn s at l ≡ done g → Made s at o e g
+made-in : (s : List ℕ) (at : ℕ) (o : PField) (e : ℤ) (l : Layout) (g : Periodic) → laid Codes.Cuc o e ≡ done l → tagIn s at l ≡ done g → Made s at o e g
 unfolding tagIn tagWith
 made-in s at o e (Cuc l) g p h = let (m, (f, k)) = then-done (field s at l) (whole s at l) g h in made-with s at o e l g m p f k
 made-in s at o e (Cds l) g p h = never 2 g h
 made-in s at o e (Ccs l) g p h = never 2 g h
 
-made-at : (s : List ℕ) (at o : ℕ) (e : ℤ) (g : Periodic) → tagAt s at o e ≡ done g → Made s at o e g
-unfolding tagAt
-made-at s at o e g h =
-    let (_, i) = need-done (isCuc (ident o)) 2 _ g h in
-    let (l, (p, k)) = then-done (laid o e) (tagIn s at) g i in
-    made-in s at o e l g p k
-
 -- supplied apart, or read from the front
-pub made-apart : (s : List ℕ) (o : ℕ) (e : ℤ) (g : Periodic) → tagOf s (Given o) e ≡ done g → Made s 0 o e g
+pub made-apart : (s : List ℕ) (o : PField) (e : ℤ) (g : Periodic) → tagOf s (Given o) e ≡ done g → Made s 0 o e g
 unfolding tagOf
-made-apart s o e g h = made-at s 0 o e g h
+made-apart s o e g h =
+    let (k, (p, i)) = then-done (headedOf Codes.Cuc s (Given o) e) (λ (k : Headed). tagIn s (k .start) (k .layout)) g h in
+    let (a, b) = given-head Codes.Cuc e s o k p in
+    made-in s 0 o e (k .layout) g a (ap (λ (n : ℕ). tagIn s n (k .layout)) (sym b) ∙ i)
 
-pub made-front : (s : List ℕ) (e : ℤ) (g : Periodic) → tagOf s Front e ≡ done g → Made s 1 (getD s 0 0) e g
+pub made-front : (s : List ℕ) (e : ℤ) (g : Periodic) → tagOf s Front e ≡ done g → Made s 1 (octet (getD s 0 0)) e g
 unfolding tagOf
-made-front s e g h = made-at s 1 (getD s 0 0) e g (need-done (leb 1 (length s)) 1 _ g h .1)
+made-front s e g h =
+    let (k, (p, i)) = then-done (headedOf Codes.Cuc s Front e) (λ (k : Headed). tagIn s (k .start) (k .layout)) g h in
+    let (_, a, b) = octet-head Codes.Cuc e s k p in
+    made-in s 1 (octet (getD s 0 0)) e (k .layout) g a (ap (λ (n : ℕ). tagIn s n (k .layout)) (sym b) ∙ i)
 
 -- the tag names a record exactly when the record is at or after the epoch, has the tag's ticks, and its whole seconds from the epoch, cut to the coarse octets, are the tag's
-pub made-names : (s : List ℕ) (at o : ℕ) (e : ℤ) (g : Periodic) (d : Made s at o e g) (m : Time) → isRecord m ≡ true → Names g m ↔ CutTo (d .layout) (d .count) m
+pub made-names : (s : List ℕ) (at : ℕ) (o : PField) (e : ℤ) (g : Periodic) (d : Made s at o e g) (m : Time) → isRecord m ≡ true → Names g m ↔ CutTo (d .layout) (d .count) m
 made-names s at o e g d m v =
-    let y = laid-good o e (Cuc (d .layout)) (d .lays) in
+    let y = laid-good Codes.Cuc o e (Cuc (d .layout)) (d .lays) in
     rw (← d .is)
     (names-cut (d .layout) (layout-good (d .layout) y) (d .count) (counted-lt s at (d .layout) y (d .count) (d .counts)) m (good-within (2 ^ 41) m (lit< tt) v .below))

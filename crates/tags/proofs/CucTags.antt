@@ -22,13 +22,13 @@ use Rattle.cuc.proofs.Widths.{power-pos, power-le, power-in}
 use Rattle.cuc.proofs.Fields.{field-told}
 use Rattle.cuc.proofs.Promises.{read-valid}
 use Rattle.octets.specs.Powers.{powerIn}
-use Rattle.codes.specs.PField.{ident, laid}
-use Rattle.codes.specs.declared.Preamble.{Preamble}
-use Rattle.codes.specs.declared.Preamble.the-variants.{Front, Given}
-use Rattle.codes.specs.declared.pfield.Layout.{Layout}
-use Rattle.codes.specs.declared.pfield.Layout.the-variants.{Cuc, Cds, Ccs}
+use Rattle.pfield.specs.PField.{Headed, headedOf}
+use Rattle.pfield.specs.declared.Codes.the-variants as Codes
+use Rattle.pfield.specs.declared.Preamble.{Preamble}
+use Rattle.pfield.specs.declared.Layout.{Layout}
+use Rattle.pfield.specs.declared.Layout.the-variants.{Cuc, Cds, Ccs}
 use Rattle.tags.specs.Records.{startAt, momentsIn}
-use Rattle.tags.specs.CucTag.{Periodic, isCuc, tagWith, tagIn, tagAt, tagOf, listPeriodic}
+use Rattle.tags.specs.CucTag.{Periodic, tagWith, tagIn, tagOf, listPeriodic}
 use Rattle.tags.specs.Inner.{Short}
 use Rattle.tags.proofs.Windows.{Ordered, windowed-yes, start-low}
 
@@ -74,17 +74,11 @@ tag-in s at (Cuc l) g h = tag-with s at l g h
 tag-in s at (Cds l) g h = never 2 g h
 tag-in s at (Ccs l) g h = never 2 g h
 
-tag-at : (s : List ℕ) (at o : ℕ) (e : ℤ) (g : Periodic) → tagAt s at o e ≡ done g → Short g
-unfolding tagAt
-tag-at s at o e g h =
-    let (_, i) = need-done (isCuc (ident o)) 2 _ g h in
-    let (l, (_, k)) = then-done (laid o e) (tagIn s at) g i in
-    tag-in s at l g k
-
 pub tag-good : (s : List ℕ) (p : Preamble) (e : ℤ) (g : Periodic) → tagOf s p e ≡ done g → Short g
 unfolding tagOf
-tag-good s (Given o) e g h = tag-at s 0 o e g h
-tag-good s Front e g h = let (_, i) = need-done (leb 1 (length s)) 1 _ g h in tag-at s 1 (getD s 0 0) e g i
+tag-good s p e g h =
+    let (k, (_, i)) = then-done (headedOf Codes.Cuc s p e) (λ (k : Headed). tagIn s (k .start) (k .layout)) g h in
+    tag-in s (k .start) (k .layout) g i
 
 -- what the counter lists from the tag's second on, between the window's ends, is the tag's listing
 module _ (from to : Time) (g : Periodic) (t : Short g) (o : Ordered from to) where

@@ -9,7 +9,7 @@ use Rattle.scale.specs.Time.{Time}
 use Rattle.window.specs.Window.{Lists}
 use Rattle.window.specs.declared.Listing.{Listing}
 use Rattle.window.proofs.Once.{lists-once}
-use Rattle.codes.specs.declared.Preamble.{Preamble}
+use Rattle.pfield.specs.declared.Preamble.{Preamble}
 use Rattle.tags.specs.CucTag.{Periodic, listCuc}
 use Rattle.tags.specs.AsciiTag.{listAscii}
 use Rattle.leap.specs.Table.{Table}

@@ -13,11 +13,11 @@ use Rattle.window.specs.Window.{Named}
 use Rattle.counter.specs.Counter.{names}
 use Rattle.cuc.specs.Cuc.{field, width, unit}
 use Rattle.cuc.specs.declared.Layout as U
-use Rattle.codes.specs.PField.{ident, laid}
-use Rattle.codes.specs.declared.Preamble.{Preamble}
-use Rattle.codes.specs.declared.Preamble.the-variants.{Front, Given}
-use Rattle.codes.specs.declared.pfield.Layout.{Layout}
-use Rattle.codes.specs.declared.pfield.Layout.the-variants.{Cuc, Cds, Ccs}
+use Rattle.pfield.specs.PField.{headedOf}
+use Rattle.pfield.specs.declared.Codes.the-variants.{Cuc}
+use Rattle.pfield.specs.declared.Preamble.{Preamble}
+use Rattle.pfield.specs.declared.Layout.{Layout}
+use Rattle.pfield.specs.declared.Layout.the-variants as L
 use Rattle.tags.specs.Records.{windowed, momentsIn}
 
 -- what a tag says: the first moment that it names, epoch + T, and the seconds from one to the next
@@ -25,27 +25,18 @@ pub record Periodic : Type 0 where
   pub first : Time
   pub period : ℕ
 
--- "in a listing any but CUC" is 2
-unfoldable pub isCuc : ℕ → Bool
-isCuc id = eqb id 1 || eqb id 2
-
 -- the T-field from `at` on, read as a code's, is all that is left
 unfoldable pub tagWith : List ℕ → ℕ → U.Layout → Outcome Periodic
 tagWith s at l = andThen (field s at l) (λ m. need (leb (length s) (at + width l)) 4 (done (record { first = m; period = 256 ^ l .coarse })))
 
 unfoldable pub tagIn : List ℕ → ℕ → Layout → Outcome Periodic
-tagIn s at (Cuc l) = tagWith s at l
-tagIn s at (Cds l) = refused 2
-tagIn s at (Ccs l) = refused 2
+tagIn s at (L.Cuc l) = tagWith s at l
+tagIn s at (L.Cds l) = refused 2
+tagIn s at (L.Ccs l) = refused 2
 
--- "the tag as in reading up to 4"
-unfoldable pub tagAt : List ℕ → ℕ → ℕ → ℤ → Outcome Periodic
-tagAt s at o e = need (isCuc (ident o)) 2 (andThen (laid o e) (tagIn s at))
-
--- the P octet stands in front, or is supplied apart
+-- "the tag as in reading up to 4", but "in a listing any but CUC" is 2
 unfoldable pub tagOf : List ℕ → Preamble → ℤ → Outcome Periodic
-tagOf s (Given o) e = tagAt s 0 o e
-tagOf s Front e = need (leb 1 (length s)) 1 (tagAt s 1 (getD s 0 0) e)
+tagOf s p e = andThen (headedOf Cuc s p e) (λ h. tagIn s (h .start) (h .layout))
 
 -- what is listed of a window, seconds being raised by 2^41
 unfoldable pub listPeriodic : Time → Time → Periodic → Outcome (Named ℤ)

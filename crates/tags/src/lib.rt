@@ -3,9 +3,9 @@ mod ends;
 mod periodic;
 
 use base::Refusal;
-use codes::Preamble;
 use ends::Ends;
 use periodic::Periodic;
+use pfield::Preamble;
 use scale::Record;
 use seek::Tag;
 use tag::TagAnswer;

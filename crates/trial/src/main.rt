@@ -1,10 +1,11 @@
 // A program for the gate, which holds what it prints to the file `stdout`. It runs what no call of the C interface does:
 // the reader that hands back the part that follows, settings as one value, and the makers of records and spans.
 // Standard input is binary codes end to end, each behind its P octet.
-use codes::Preamble;
 use codes::Reading;
 use codes::setting::Setting;
 use octets::Written;
+use pfield::PField;
+use pfield::Preamble;
 use scale::Record;
 use scale::RecordAnswer;
 use scale::Span;
@@ -76,7 +77,7 @@ fn write_text(r: Record) {
 fn write_octets(r: Record) {
     let mut code = [0u8; 16];
     let setting = Setting::Binary {
-        p: 64,
+        p: PField { octet: 64 },
         epoch: 0,
         front: true,
     };

@@ -45,13 +45,13 @@ use denote.Triple.Walked.{Stays, stay-none, stay-none-slice, walkOf, onExit, goe
 use denote.Exit.{yes}
 use denote.Triple.Clauses.{ensured}
 use Rattle.codes.specs.declared.Taken.{Taken}
-use Rattle.codes.specs.declared.Preamble.{Preamble}
+use Rattle.pfield.specs.declared.Preamble.{Preamble}
 use Rattle.codes.proofs.Taken as T
 use Rattle.codes.proofs.Taken.Laws as T′
 use Rattle.codes.proofs.Reading as R
 use Rattle.codes.proofs.Reading.Laws as R′
-use Rattle.codes.proofs.Preamble as P
-use Rattle.codes.proofs.Preamble.Laws as P′
+use Rattle.pfield.proofs.Preamble as P
+use Rattle.pfield.proofs.Preamble.Laws as P′
 use Rattle.codes.proofs.read as read
 use Rattle.codes.proofs.read.Symbol as read-def
 use Rattle.codes.proofs.read.Symbol.{name as #codes·read}

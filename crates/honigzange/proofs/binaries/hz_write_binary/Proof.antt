@@ -4,6 +4,7 @@ use denote.Ref.{now}
 use mir.Syntax.{w64}
 use Rattle.base.proofs.Signed.{back}
 use Rattle.octets.specs.Writes.{Wrote}
+use Rattle.pfield.specs.PField.{octet}
 use Rattle.codes.specs.Writing.{writeOf}
 use Rattle.leap.specs.Builtin.{builtin}
 use Rattle.honigzange.specs.Cells.{time}
@@ -12,7 +13,7 @@ use Rattle.honigzange.proofs.binaries.hz_write_binary.Statement.{statem
 use Rattle.honigzange.proofs.binaries.hz_write_binary.Tie as tie
 
 -- what was written, at the numbers themselves
-told : (c : tie.After-write-binary) → let a = c .before .before .before .args in Wrote (writeOf builtin (time (a .sec) (a .ticks)) (a .p) (a .epoch) (a .front) (now (a .out))) 0 (now (a .out)) (c .write-binary .last .1 .1 .1 .1 .0) (c .write-binary .result)
+told : (c : tie.After-write-binary) → let a = c .before .before .before .args in Wrote (writeOf builtin (time (a .sec) (a .ticks)) (octet (a .p)) (a .epoch) (a .front) (now (a .out))) 0 (now (a .out)) (c .write-binary .last .1 .1 .1 .1 .0) (c .write-binary .result)
 told c =
     let s = c .before .before .before in
     rw (back w64 (s .args .sec) (s .fits .sec), back w64 (s .args .epoch) (s .fits .epoch)) at (c .write-binary .ensures)

@@ -4,6 +4,7 @@ use denote.Ref.{now}
 use mir.Syntax.{w64}
 use Rattle.base.proofs.Signed.{back}
 use Rattle.window.specs.Window.{Lists}
+use Rattle.pfield.specs.PField.{octet}
 use Rattle.codes.specs.Writing.{from}
 use Rattle.tags.specs.CucTag.{listCuc}
 use Rattle.honigzange.specs.Cells.{time}
@@ -12,7 +13,7 @@ use Rattle.honigzange.proofs.listings.hz_list_cuc.Statement.{statement}
 use Rattle.honigzange.proofs.listings.hz_list_cuc.Tie as tie
 
 -- what was listed, at the numbers themselves
-told : (c : tie.After-list-cuc) → let a = c .before .before .before .before .args in Lists (listCuc (now (a .tag)) (from (a .front) (a .p)) (a .epoch) (time (a .begin) (a .beginticks)) (time (a .end) (a .endticks))) (now (a .list)) (c .list-cuc .last .1 .1 .1 .1 .1 .0) (c .list-cuc .result)
+told : (c : tie.After-list-cuc) → let a = c .before .before .before .before .args in Lists (listCuc (now (a .tag)) (from (a .front) (octet (a .p))) (a .epoch) (time (a .begin) (a .beginticks)) (time (a .end) (a .endticks))) (now (a .list)) (c .list-cuc .last .1 .1 .1 .1 .1 .0) (c .list-cuc .result)
 told c =
     let k = c .before .before in
     let s = k .before .before in

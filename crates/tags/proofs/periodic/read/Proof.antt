@@ -1,62 +1,53 @@
--- `tags::periodic::read` meets its contract.
-use mathlib.Core.Path.{sym, ap, _∙_}
-use native.Mathlib.Omega.{arith}
+-- `tags::periodic::read` meets its contract: the P-field's refusal stands, and its layout and start say where the T-field is read.
+use mathlib.Core.Path.{_≡_, sym, ap, _∙_}
 use borrow.Author.Needs.{needs}
-use borrow.Author.Tests.{le-leb, lt-leb}
-use lib.ListN.{length}
+use denote.Ref.{now}
 use mir.Syntax.{w64}
-use Rattle.base.proofs.Ladders.{need-yes, need-no}
+use Rattle.base.specs.Outcome.{Outcome, andThen}
 use Rattle.base.proofs.Signed.{back}
-use Rattle.codes.specs.declared.Preamble.{Preamble}
-use Rattle.tags.specs.CucTag.{tagOf}
+use Rattle.pfield.specs.PField.{Headed, headedOf}
+use Rattle.pfield.specs.Answers.{saysHead}
+use Rattle.pfield.specs.declared.Codes.the-variants.{Cuc}
+use Rattle.pfield.proofs.Heads.{start-low}
+use Rattle.tags.specs.CucTag.{tagIn, tagOf}
 use Rattle.tags.proofs.periodic.read.Statement.{statement}
 use Rattle.tags.proofs.periodic.read.Tie as tie
 
-enum-known-p : tie.Need-enum-known-p
-enum-known-p c = search needs
+read-requires : tie.Need-read-requires
+read-requires c κs = search needs
 
-read-at-requires : tie.Need-read-at-requires
-read-at-requires c κs = search needs
+-- what the P-field said, at the epoch itself
+told : (c : tie.After-read) → let a = c .before .before .args in headedOf Cuc (now (a .tag)) (a .p) (a .epoch) ≡ saysHead (c .read .result)
+told c = let s = c .before .before in sym (rw (back w64 (s .args .epoch) (s .fits .epoch)) at (c .read .ensures))
 
-enum-told : tie.Need-enum-told
-enum-told c = search needs
+enum-known-why : tie.Need-enum-known-why
+enum-known-why c = search needs
+
+enum-known-l : tie.Need-enum-known-l
+enum-known-l c = search needs
+
+read-in-requires : tie.Need-read-in-requires
+read-in-requires c κs =
+    let w = c .before in
+    let r = w .before .before in
+    let a = r .before .before .args in
+    start-low Cuc (a .epoch) (now (a .tag)) (a .p) _ (told r ∙ ap saysHead (w .l .given .1))
 
 returns : tie.Need-returns
 unfolding tagOf
 returns c =
-    let a = c .before .before .before .before .args in
-    sym (ap (λ (p : Preamble). tagOf (a .tag .now) p (a .epoch)) (c .before .enum-told .given .1) ∙ need-no 1 _ (lt-leb 1 (length (a .tag .now)) (omega arith)))
-
-shared-slice-read-o : tie.Need-shared-slice-read-o
-shared-slice-read-o c = search needs
-
-read-at-requires-2 : tie.Need-read-at-requires-2
-read-at-requires-2 c κs = search needs
+    let w = c .before in
+    let a = w .before .before .before .before .args in
+    sym (ap (λ (x : Outcome Headed). andThen x (λ (h : Headed). tagIn (now (a .tag)) (h .start) (h .layout))) (told (w .before .before) ∙ ap saysHead (w .why .given .1)))
 
 returns-2 : tie.Need-returns-2
 unfolding tagOf
 returns-2 c =
     let w = c .before .before in
-    let s = w .before .before .before in
-    rw (back w64 (s .args .epoch) (s .fits .epoch)) at (c .read-at .ensures) ∙ sym (ap (λ (p : Preamble). tagOf (s .args .tag .now) p (s .args .epoch)) (w .p .given .1))
-
-returns-3 : tie.Need-returns-3
-unfolding tagOf
-returns-3 c =
-    let w = c .before .before .before in
-    let s = w .before .before .before in
-    rw (back w64 (s .args .epoch) (s .fits .epoch)) at (c .read-at2 .ensures)
-    ∙ sym (ap (λ (p : Preamble). tagOf (s .args .tag .now) p (s .args .epoch)) (w .enum-told .given .1) ∙ need-yes 1 _ (le-leb 1 (length (s .args .tag .now)) (omega arith)))
+    let a = w .before .before .before .before .args in
+    c .read-in .ensures
+    ∙ sym (ap (λ (x : Outcome Headed). andThen x (λ (h : Headed). tagIn (now (a .tag)) (h .start) (h .layout))) (told (w .before .before) ∙ ap saysHead (w .l .given .1)))
 
 pub read-spec : {M : Type 1} → statement M
 read-spec =
-    tie.close
-    (tie.spec
-    enum-known-p
-    read-at-requires
-    enum-told
-    returns
-    shared-slice-read-o
-    read-at-requires-2
-    returns-2
-    returns-3)
+    tie.close (tie.spec read-requires enum-known-why enum-known-l read-in-requires returns returns-2)

@@ -6,7 +6,7 @@ use denote.Ref.{now}
 use Rattle.base.specs.Outcome.{done}
 use Rattle.scale.specs.Answers.{recorded, saysRecord}
 use Rattle.cuc.specs.Cuc.{field}
-use Rattle.codes.specs.declared.pfield.Layout.the-variants.{Cuc}
+use Rattle.pfield.specs.declared.Layout.the-variants.{Cuc}
 use Rattle.codes.proofs.Fields.{width-low}
 use Rattle.tags.proofs.CucTags.{tag-short, tag-long, tag-whole, tag-power}
 use Rattle.tags.proofs.periodic.read_with.Statement.{statement}
