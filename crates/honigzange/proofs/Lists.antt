@@ -5,8 +5,9 @@ use mathlib.Core.Path.{_≡_, refl, _∙_}
 use Prim.Native.Nat.{ℕ}
 use lib.IntN.{ℤ}
 use Rattle.base.specs.Outcome.{Outcome, done, refused, status, cell, given}
-use Rattle.window.specs.Window.{Named, saysListing, listed, leaves, Lists}
+use Rattle.window.specs.Window.{Named, saysListing, listed, Lists}
 use Rattle.window.specs.declared.Listing.{Listing}
+use Rattle.honigzange.specs.Contracts as Contract
 use Rattle.honigzange.specs.Cells.{listedTicks, listedCount, listedMore}
 
 same-status : (x : Outcome (Named ℤ)) (entry : List ℤ) → status (given (listed entry) x) ≡ status x
@@ -15,7 +16,7 @@ same-status (refused n) entry = refl
 
 pub tells-listing : (x : Outcome (Named ℤ)) (entry exit : List ℤ) (a : Listing) (r t t' n n' : ℕ) (m m' : Bool) → Lists x entry exit a
     → (r ≡ status (saysListing a)) × ((t' ≡ cell listedTicks (saysListing a) t) × ((n' ≡ cell listedCount (saysListing a) n) × (m' ≡ cell listedMore (saysListing a) m)))
-    → (r ≡ status x) × ((exit ≡ leaves x entry) × ((t' ≡ cell listedTicks (given (listed entry) x) t) × ((n' ≡ cell listedCount (given (listed entry) x) n) × (m' ≡ cell listedMore (given (listed entry) x) m))))
+    → Contract.Listing x r entry exit t t' n n' m m'
 tells-listing x entry exit a r t t' n n' m m' l g =
     let (p, (q, (s, u))) = rw (l .outcome) at g in
-    (p ∙ same-status x entry, (l .memory, (q, (s, u))))
+    record { answer = p ∙ same-status x entry; seconds = l .memory; parts = q; number = s; further = u }

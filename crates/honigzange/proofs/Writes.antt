@@ -4,16 +4,16 @@ use mathlib.Core.List.{List}
 use Prim.Native.Nat.{ℕ}
 use native.Mathlib.Omega.{arith}
 use Rattle.base.specs.Outcome.{Outcome, done, refused, status, cell}
-use Rattle.octets.specs.Writes.{filled, saysWritten, Wrote}
+use Rattle.octets.specs.Writes.{saysWritten, Wrote}
 use Rattle.octets.specs.declared.Written.{Written}
-use Rattle.honigzange.specs.Cells.{lengthOf}
+use Rattle.honigzange.specs.Contracts as Contract
 
 pub tells-length : (x : Outcome (List ℕ)) (old new : List ℕ) (a : Written) (r n n' : ℕ) → Wrote x 0 old new a
     → (r ≡ status (saysWritten a)) × (n' ≡ cell (λ (k : ℕ). k) (saysWritten a) n)
-    → (r ≡ status x) × ((new ≡ filled 0 x old) × (n' ≡ cell lengthOf x n))
+    → Contract.Writes x r old new n n'
 tells-length (done code) old new a r n n' w g =
     let (p, q) = rw (w .answer) at g in
-    (p, (w .bytes, omega (arith, q)))
+    record { answer = p; bytes = w .bytes; count = omega (arith, q) }
 tells-length (refused m) old new a r n n' w g =
     let (p, q) = rw (w .answer) at g in
-    (p, (w .bytes, q))
+    record { answer = p; bytes = w .bytes; count = q }

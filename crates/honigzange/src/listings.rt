@@ -2,14 +2,15 @@
 use scale::Record;
 use window::Listing;
 ghost use mathlib.Core.Path.{_≡_};
-ghost use Rattle.base.specs.Outcome.{status, cell, given};
-ghost use Rattle.window.specs.Window.{saysListing, listed, leaves};
+ghost use Rattle.base.specs.Outcome.{status, cell};
+ghost use Rattle.window.specs.Window.{saysListing};
 ghost use Rattle.leap.specs.Builtin.{builtin};
 ghost use Rattle.pfield.specs.PField.{octet};
 ghost use Rattle.codes.specs.Writing.{from};
 ghost use Rattle.tags.specs.CucTag.{listCuc};
 ghost use Rattle.tags.specs.AsciiTag.{listAscii};
 ghost use Rattle.honigzange.specs.Cells.{time, listedTicks, listedCount, listedMore};
+ghost use Rattle.honigzange.specs.Contracts as Contract;
 
 // What a CUC tag names.
 #[no_mangle]
@@ -27,11 +28,7 @@ pub extern "C" fn hz_list_cuc(
     count: &mut usize,
     more: &mut bool,
 ) -> u8
-    ensures answer { λ r. ⌜ r ≡ status (listCuc (now (tag .entry)) (from front (octet p)) epoch (time begin beginticks) (time end endticks)) ⌝ }
-    ensures seconds { λ _. ⌜ now (list .exit) ≡ leaves (listCuc (now (tag .entry)) (from front (octet p)) epoch (time begin beginticks) (time end endticks)) (now (list .entry)) ⌝ }
-    ensures parts { λ _. ⌜ now (ticks .exit) ≡ cell listedTicks (given (listed (now (list .entry))) (listCuc (now (tag .entry)) (from front (octet p)) epoch (time begin beginticks) (time end endticks))) (now (ticks .entry)) ⌝ }
-    ensures number { λ _. ⌜ now (count .exit) ≡ cell listedCount (given (listed (now (list .entry))) (listCuc (now (tag .entry)) (from front (octet p)) epoch (time begin beginticks) (time end endticks))) (now (count .entry)) ⌝ }
-    ensures further { λ _. ⌜ now (more .exit) ≡ cell listedMore (given (listed (now (list .entry))) (listCuc (now (tag .entry)) (from front (octet p)) epoch (time begin beginticks) (time end endticks))) (now (more .entry)) ⌝ }
+    ensures { λ r. ⌜ Contract.Listing (listCuc (now (tag .entry)) (from front (octet p)) epoch (time begin beginticks) (time end endticks)) r (now (list .entry)) (now (list .exit)) (now (ticks .entry)) (now (ticks .exit)) (now (count .entry)) (now (count .exit)) (now (more .entry)) (now (more .exit)) ⌝ }
 {
     let since = Record {
         sec: begin,
@@ -59,11 +56,7 @@ pub extern "C" fn hz_list_ascii(
     count: &mut usize,
     more: &mut bool,
 ) -> u8
-    ensures answer { λ r. ⌜ r ≡ status (listAscii builtin (now (tag .entry)) (time begin beginticks) (time end endticks)) ⌝ }
-    ensures seconds { λ _. ⌜ now (list .exit) ≡ leaves (listAscii builtin (now (tag .entry)) (time begin beginticks) (time end endticks)) (now (list .entry)) ⌝ }
-    ensures parts { λ _. ⌜ now (ticks .exit) ≡ cell listedTicks (given (listed (now (list .entry))) (listAscii builtin (now (tag .entry)) (time begin beginticks) (time end endticks))) (now (ticks .entry)) ⌝ }
-    ensures number { λ _. ⌜ now (count .exit) ≡ cell listedCount (given (listed (now (list .entry))) (listAscii builtin (now (tag .entry)) (time begin beginticks) (time end endticks))) (now (count .entry)) ⌝ }
-    ensures further { λ _. ⌜ now (more .exit) ≡ cell listedMore (given (listed (now (list .entry))) (listAscii builtin (now (tag .entry)) (time begin beginticks) (time end endticks))) (now (more .entry)) ⌝ }
+    ensures { λ r. ⌜ Contract.Listing (listAscii builtin (now (tag .entry)) (time begin beginticks) (time end endticks)) r (now (list .entry)) (now (list .exit)) (now (ticks .entry)) (now (ticks .exit)) (now (count .entry)) (now (count .exit)) (now (more .entry)) (now (more .exit)) ⌝ }
 {
     let since = Record {
         sec: begin,

@@ -2,11 +2,11 @@
 use scale::Record;
 ghost use mathlib.Core.Path.{_≡_};
 ghost use Rattle.base.specs.Outcome.{status, cell};
-ghost use Rattle.octets.specs.Writes.{filled};
 ghost use Rattle.leap.specs.Builtin.{builtin};
 ghost use Rattle.codes.specs.Text.{textOf};
 ghost use Rattle.codes.specs.Setting.{asciiOf, wallOf};
-ghost use Rattle.honigzange.specs.Cells.{time, secOf, ticksOf, lengthOf, asciiLayout};
+ghost use Rattle.honigzange.specs.Cells.{time, secOf, ticksOf, asciiLayout};
+ghost use Rattle.honigzange.specs.Contracts as Contract;
 
 // The moment of an ASCII code, which is the whole text.
 #[no_mangle]
@@ -30,9 +30,7 @@ pub extern "C" fn hz_write_ascii(
     out: &mut [u8],
     written: &mut usize,
 ) -> u8
-    ensures answer { λ r. ⌜ r ≡ status (asciiOf builtin (asciiLayout «day_of_year» digits z) (time sec ticks) (now (out .entry))) ⌝ }
-    ensures bytes { λ _. ⌜ now (out .exit) ≡ filled 0 (asciiOf builtin (asciiLayout «day_of_year» digits z) (time sec ticks) (now (out .entry))) (now (out .entry)) ⌝ }
-    ensures count { λ _. ⌜ now (written .exit) ≡ cell lengthOf (asciiOf builtin (asciiLayout «day_of_year» digits z) (time sec ticks) (now (out .entry))) (now (written .entry)) ⌝ }
+    ensures { λ r. ⌜ Contract.Writes (asciiOf builtin (asciiLayout «day_of_year» digits z) (time sec ticks) (now (out .entry))) r (now (out .entry)) (now (out .exit)) (now (written .entry)) (now (written .exit)) ⌝ }
 {
     let r = Record {
         sec: sec,
@@ -50,9 +48,7 @@ pub extern "C" fn hz_write_ascii(
 // A moment in the default setting.
 #[no_mangle]
 pub extern "C" fn hz_write_wall(sec: i64, ticks: u64, out: &mut [u8], written: &mut usize) -> u8
-    ensures answer { λ r. ⌜ r ≡ status (wallOf builtin (time sec ticks) (now (out .entry))) ⌝ }
-    ensures bytes { λ _. ⌜ now (out .exit) ≡ filled 0 (wallOf builtin (time sec ticks) (now (out .entry))) (now (out .entry)) ⌝ }
-    ensures count { λ _. ⌜ now (written .exit) ≡ cell lengthOf (wallOf builtin (time sec ticks) (now (out .entry))) (now (written .entry)) ⌝ }
+    ensures { λ r. ⌜ Contract.Writes (wallOf builtin (time sec ticks) (now (out .entry))) r (now (out .entry)) (now (out .exit)) (now (written .entry)) (now (written .exit)) ⌝ }
 {
     let r = Record {
         sec: sec,

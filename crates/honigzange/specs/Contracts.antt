@@ -1,0 +1,32 @@
+-- What a call from C answers and leaves, as one record for each kind of call: the answer, and each lent cell or list before and after it.
+use mathlib.Core.Path.{_≡_}
+use mathlib.Core.Bool.{Bool}
+use mathlib.Core.List.{List}
+use Prim.Native.Nat.{ℕ}
+use lib.IntN.{ℤ}
+use Rattle.base.specs.Outcome.{Outcome, status, cell, given}
+use Rattle.octets.specs.Writes.{filled}
+use Rattle.window.specs.Window.{Named, listed, leaves}
+use Rattle.codes.specs.Reading.{Scanned}
+use Rattle.honigzange.specs.Cells.{lengthOf, scannedSec, scannedTicks, scannedUsed, listedTicks, listedCount, listedMore}
+
+-- a binary read: the record's seconds and ticks, and how many bytes the code takes
+pub record Scans (x : Outcome Scanned) (r : ℕ) (sec sec' : ℤ) (ticks ticks' used used' : ℕ) : Type 0 where
+  pub answer : r ≡ status x
+  pub seconds : sec' ≡ cell scannedSec x sec
+  pub parts : ticks' ≡ cell scannedTicks x ticks
+  pub count : used' ≡ cell scannedUsed x used
+
+-- a write: the lent bytes, and how many of them the code takes
+pub record Writes (x : Outcome (List ℕ)) (r : ℕ) (out out' : List ℕ) (written written' : ℕ) : Type 0 where
+  pub answer : r ≡ status x
+  pub bytes : out' ≡ filled 0 x out
+  pub count : written' ≡ cell lengthOf x written
+
+-- a listing: the lent list, the one tick count, how many are listed, and whether more remain
+pub record Listing (x : Outcome (Named ℤ)) (r : ℕ) (list list' : List ℤ) (ticks ticks' count count' : ℕ) (more more' : Bool) : Type 0 where
+  pub answer : r ≡ status x
+  pub seconds : list' ≡ leaves x list
+  pub parts : ticks' ≡ cell listedTicks (given (listed list) x) ticks
+  pub number : count' ≡ cell listedCount (given (listed list) x) count
+  pub further : more' ≡ cell listedMore (given (listed list) x) more
