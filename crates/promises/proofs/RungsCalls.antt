@@ -1,28 +1,23 @@
--- For each call of the C interface and each refusal number: the answer is that refusal exactly when its condition, in document 01's words, is broken and no earlier one is.
+-- Every call of the C interface, by any table that reckons, is refused exactly when document 01 says: the answer is a refusal exactly when its condition, in document 01's words, is broken and no earlier one is. And its number is one of nine.
 use mathlib.Core.Path.{_≡_, refl}
-use mathlib.Core.Bool.{Bool}
+use mathlib.Core.Bool.{Bool, true}
 use mathlib.Core.List.{List, [], _∷_, map}
 use Prim.Native.Nat.{ℕ}
 use lib.IntN.{ℤ}
-use Rattle.scale.specs.Time.{Time, differenceOf, shiftOf}
-use Rattle.calendar.specs.Gregorian.{dayOfDate, dayOfOrdinal, dateOfDay, ordinalOfDay}
-use Rattle.leap.specs.Builtin.{builtin}
-use Rattle.leap.specs.Utc.{utcOfSecond, secondOfUtc}
-use Rattle.ascii.specs.Ascii.{text}
+use Rattle.base.specs.Outcome.{Outcome}
+use Rattle.scale.specs.Time.{Time}
+use Rattle.leap.specs.Table.{Table}
+use Rattle.utc.specs.Reckoning.{reckons}
 use Rattle.ascii.specs.declared.Layout.{Layout}
-use Rattle.codes.specs.Reading.{scanOf}
-use Rattle.codes.specs.Writing.{writeOf}
-use Rattle.codes.specs.Setting.{asciiOf, wallOf}
+use Rattle.codes.specs.Writing.{from}
 use Rattle.codes.specs.declared.Preamble.{Preamble}
-use Rattle.tags.specs.CucTag.{listCuc}
-use Rattle.tags.specs.AsciiTag.{listAscii}
-use Rattle.promises.specs.Rungs.{Rung, Exactly}
-use Rattle.promises.specs.RungsScale.{differenceRungs, shiftRungs}
-use Rattle.promises.specs.RungsCalendar.{dayOfDateRungs, dayOfOrdinalRungs, dateOfDayRungs, ordinalOfDayRungs, utcOfSecondRungs, secondOfUtcRungs}
+use Rattle.promises.specs.Promises.{Call, difference, shift, dayOfDate, dateOfDay, dayOfOrdinal, ordinalOfDay, utcOfSecond, secondOfUtc, readBinary, writeBinary, readAscii, writeAscii, writeWall, listCuc, listAscii, outcomeOf}
+use Rattle.promises.specs.Rungs.{Rung, numbered, Exactly}
 use Rattle.promises.specs.RungsAscii.{readAsciiRungs, writeAsciiRungs, writeWallRungs}
 use Rattle.promises.specs.RungsBinary.{readBinaryRungs, writeBinaryRungs}
 use Rattle.promises.specs.RungsTags.{listCucRungs, listAsciiRungs}
-use Rattle.promises.proofs.Rungs.{exactly}
+use Rattle.promises.specs.RungsCalls.{rungsOf}
+use Rattle.promises.proofs.Rungs.{verdict, judged, by-rungs}
 use Rattle.promises.proofs.RungsScale.{difference-rungs, shift-rungs}
 use Rattle.promises.proofs.RungsCalendar.{day-of-date-rungs, day-of-ordinal-rungs, date-of-day-rungs, ordinal-of-day-rungs, utc-of-second-rungs, second-of-utc-rungs}
 use Rattle.promises.proofs.RungsAscii.{read-ascii-rungs, write-ascii-rungs, write-wall-rungs}
@@ -33,61 +28,52 @@ use Rattle.promises.proofs.RungsTags.{list-cuc-rungs, list-ascii-rungs}
 abbrev numbers : List Rung → List ℕ
 numbers rs = map (λ r. r .number) rs
 
-pub reading-order : (s : List ℕ) (p : Preamble) (e : ℤ) → (numbers (readBinaryRungs s p e) ≡ 1 ∷ 2 ∷ 3 ∷ 7 ∷ 1 ∷ 4 ∷ 5 ∷ 6 ∷ []) × (numbers (readAsciiRungs s) ≡ 1 ∷ 4 ∷ 5 ∷ 6 ∷ [])
-reading-order s p e = (refl, refl)
+module _ (t : Table) where
+  pub reading-order : (s : List ℕ) (p : Preamble) (e : ℤ) → (numbers (readBinaryRungs t s p e) ≡ 1 ∷ 2 ∷ 3 ∷ 7 ∷ 1 ∷ 4 ∷ 5 ∷ 6 ∷ []) × (numbers (readAsciiRungs t s) ≡ 1 ∷ 4 ∷ 5 ∷ 6 ∷ [])
+  reading-order s p e = (refl, refl)
 
-pub writing-order : (r : Time) (o : ℕ) (e : ℤ) (front : Bool) (l : Layout) (out : List ℕ) → (numbers (writeBinaryRungs r o e front out) ≡ 7 ∷ 2 ∷ 3 ∷ 7 ∷ 5 ∷ 7 ∷ 8 ∷ []) × (numbers (writeAsciiRungs l r out) ≡ 7 ∷ 3 ∷ 5 ∷ 8 ∷ []) × (numbers (writeWallRungs r out) ≡ 7 ∷ 5 ∷ 8 ∷ [])
-writing-order r o e front l out = (refl, refl, refl)
+  pub writing-order : (r : Time) (o : ℕ) (e : ℤ) (front : Bool) (l : Layout) (out : List ℕ) → (numbers (writeBinaryRungs t r o e front out) ≡ 7 ∷ 2 ∷ 3 ∷ 7 ∷ 5 ∷ 7 ∷ 8 ∷ []) × (numbers (writeAsciiRungs t l r out) ≡ 7 ∷ 3 ∷ 5 ∷ 8 ∷ []) × (numbers (writeWallRungs t r out) ≡ 7 ∷ 5 ∷ 8 ∷ [])
+  writing-order r o e front l out = (refl, refl, refl)
 
-pub listing-order : (s : List ℕ) (p : Preamble) (e : ℤ) (from to : Time) → (numbers (listCucRungs s p e from to) ≡ 1 ∷ 2 ∷ 3 ∷ 7 ∷ 1 ∷ 4 ∷ 7 ∷ 7 ∷ 9 ∷ []) × (numbers (listAsciiRungs s from to) ≡ 1 ∷ 4 ∷ 7 ∷ 7 ∷ 9 ∷ 5 ∷ [])
-listing-order s p e from to = (refl, refl)
+  pub listing-order : (s : List ℕ) (p : Preamble) (e : ℤ) (from to : Time) → (numbers (listCucRungs s p e from to) ≡ 1 ∷ 2 ∷ 3 ∷ 7 ∷ 1 ∷ 4 ∷ 7 ∷ 7 ∷ 9 ∷ []) × (numbers (listAsciiRungs t s from to) ≡ 1 ∷ 4 ∷ 7 ∷ 7 ∷ 9 ∷ 5 ∷ [])
+  listing-order s p e from to = (refl, refl)
 
--- ---- records and spans
-pub difference : (a b : Time) → Exactly (differenceOf a b) (differenceRungs a b)
-difference a b = exactly (differenceOf a b) (differenceRungs a b) (difference-rungs a b) refl
+  -- each is one of nine
+  pub calls-numbered : (c : Call) → numbered (rungsOf t c) ≡ true
+  calls-numbered (difference a b) = refl
+  calls-numbered (shift r s) = refl
+  calls-numbered (dayOfDate y m d) = refl
+  calls-numbered (dateOfDay z) = refl
+  calls-numbered (dayOfOrdinal y d) = refl
+  calls-numbered (ordinalOfDay z) = refl
+  calls-numbered (utcOfSecond z) = refl
+  calls-numbered (secondOfUtc d x) = refl
+  calls-numbered (readBinary s front p e) = refl
+  calls-numbered (writeBinary r front p e out) = refl
+  calls-numbered (readAscii s) = refl
+  calls-numbered (writeAscii r l out) = refl
+  calls-numbered (writeWall r out) = refl
+  calls-numbered (listCuc s front p e since before) = refl
+  calls-numbered (listAscii s since before) = refl
 
-pub shift : (r s : Time) → Exactly (shiftOf r s) (shiftRungs r s)
-shift r s = exactly (shiftOf r s) (shiftRungs r s) (shift-rungs r s) refl
+  -- ---- every call
+  module _ (g : reckons t ≡ true) where
+    judged-so : (c : Call) → verdict (outcomeOf t c) ≡ judged (rungsOf t c)
+    judged-so (difference a b) = difference-rungs a b
+    judged-so (shift r s) = shift-rungs r s
+    judged-so (dayOfDate y m d) = day-of-date-rungs y m d
+    judged-so (dateOfDay z) = date-of-day-rungs z
+    judged-so (dayOfOrdinal y d) = day-of-ordinal-rungs y d
+    judged-so (ordinalOfDay z) = ordinal-of-day-rungs z
+    judged-so (utcOfSecond z) = utc-of-second-rungs t z
+    judged-so (secondOfUtc d x) = second-of-utc-rungs t d x
+    judged-so (readBinary s front p e) = read-binary-rungs t s (from front p) e
+    judged-so (writeBinary r front p e out) = write-binary-rungs t g r p e front out
+    judged-so (readAscii s) = read-ascii-rungs t s
+    judged-so (writeAscii r l out) = write-ascii-rungs t g l r out
+    judged-so (writeWall r out) = write-wall-rungs t g r out
+    judged-so (listCuc s front p e since before) = list-cuc-rungs s (from front p) e since before
+    judged-so (listAscii s since before) = list-ascii-rungs t s since before
 
--- ---- the calendar
-pub day-of-date : (y m d : ℕ) → Exactly (dayOfDate y m d) (dayOfDateRungs y m d)
-day-of-date y m d = exactly (dayOfDate y m d) (dayOfDateRungs y m d) (day-of-date-rungs y m d) refl
-
-pub day-of-ordinal : (y d : ℕ) → Exactly (dayOfOrdinal y d) (dayOfOrdinalRungs y d)
-day-of-ordinal y d = exactly (dayOfOrdinal y d) (dayOfOrdinalRungs y d) (day-of-ordinal-rungs y d) refl
-
-pub date-of-day : (z : ℤ) → Exactly (dateOfDay z) (dateOfDayRungs z)
-date-of-day z = exactly (dateOfDay z) (dateOfDayRungs z) (date-of-day-rungs z) refl
-
-pub ordinal-of-day : (z : ℤ) → Exactly (ordinalOfDay z) (ordinalOfDayRungs z)
-ordinal-of-day z = exactly (ordinalOfDay z) (ordinalOfDayRungs z) (ordinal-of-day-rungs z) refl
-
--- ---- TAI and UTC
-pub utc-of-second : (z : ℤ) → Exactly (utcOfSecond builtin z) (utcOfSecondRungs z)
-utc-of-second z = exactly (utcOfSecond builtin z) (utcOfSecondRungs z) (utc-of-second-rungs z) refl
-
-pub second-of-utc : (d : ℤ) (x : ℕ) → Exactly (secondOfUtc builtin d x) (secondOfUtcRungs d x)
-second-of-utc d x = exactly (secondOfUtc builtin d x) (secondOfUtcRungs d x) (second-of-utc-rungs d x) refl
-
--- ---- codes
-pub read-binary : (s : List ℕ) (p : Preamble) (e : ℤ) → Exactly (scanOf s p e) (readBinaryRungs s p e)
-read-binary s p e = exactly (scanOf s p e) (readBinaryRungs s p e) (read-binary-rungs s p e) refl
-
-pub write-binary : (r : Time) (o : ℕ) (e : ℤ) (front : Bool) (out : List ℕ) → Exactly (writeOf r o e front out) (writeBinaryRungs r o e front out)
-write-binary r o e front out = exactly (writeOf r o e front out) (writeBinaryRungs r o e front out) (write-binary-rungs r o e front out) refl
-
-pub read-ascii : (s : List ℕ) → Exactly (text s) (readAsciiRungs s)
-read-ascii s = exactly (text s) (readAsciiRungs s) (read-ascii-rungs s) refl
-
-pub write-ascii : (l : Layout) (r : Time) (out : List ℕ) → Exactly (asciiOf l r out) (writeAsciiRungs l r out)
-write-ascii l r out = exactly (asciiOf l r out) (writeAsciiRungs l r out) (write-ascii-rungs l r out) refl
-
-pub write-wall : (r : Time) (out : List ℕ) → Exactly (wallOf r out) (writeWallRungs r out)
-write-wall r out = exactly (wallOf r out) (writeWallRungs r out) (write-wall-rungs r out) refl
-
--- ---- listings
-pub list-cuc : (s : List ℕ) (p : Preamble) (e : ℤ) (from to : Time) → Exactly (listCuc s p e from to) (listCucRungs s p e from to)
-list-cuc s p e from to = exactly (listCuc s p e from to) (listCucRungs s p e from to) (list-cuc-rungs s p e from to) refl
-
-pub list-ascii : (s : List ℕ) (from to : Time) → Exactly (listAscii s from to) (listAsciiRungs s from to)
-list-ascii s from to = exactly (listAscii s from to) (listAsciiRungs s from to) (list-ascii-rungs s from to) refl
+    pub calls-exactly : (c : Call) → Exactly (outcomeOf t c) (rungsOf t c)
+    calls-exactly c = by-rungs (outcomeOf t c) (rungsOf t c) (judged-so c)
