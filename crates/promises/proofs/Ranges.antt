@@ -26,7 +26,7 @@ use Rattle.cuc.proofs.Promises as U
 use Rattle.cds.specs.Cds as D
 use Rattle.cds.proofs.Promises as DP
 use Rattle.ccs.specs.Ccs as C
-use Rattle.ascii.specs.Ascii as A
+use Rattle.ascii.specs.Ascii.{bit}
 use Rattle.codes.specs.PField.{laid}
 use Rattle.codes.specs.Reading.{widthOf}
 use Rattle.codes.specs.Writing.{bytesOf, codeOf, writeOf}
@@ -43,6 +43,7 @@ use Rattle.codes.proofs.Range.{InRange, day-held, held-day, in-range, cuc-out, 
 use Rattle.promises.specs.Promises.{Done, Ready, isUtcIn, isUtc, Covered, HoldsIn, Holds, FitsIn, Outside}
 use Rattle.promises.specs.RungsCalendar.{coveredSecond}
 use Rattle.promises.proofs.RungsCalendar.{utc-climbs}
+use Rattle.promises.proofs.RungsBinary.{code-length}
 use Rattle.promises.proofs.Settings.{writes-by, ascii-told}
 
 module _ (t : Table) (g : reckons t ≡ true) where
@@ -62,10 +63,6 @@ module _ (t : Table) (g : reckons t ≡ true) where
   moment-covered r m e = let (u, (a, _)) = moment-told t r m e in (u, a)
 
   -- ---- the target holds it: it is written
-  code-size : (front : Bool) (p : ℕ) (t : List ℕ) → length (codeOf front p t) ≡ A.bit front + length t
-  code-size true p t = omega arith
-  code-size false p t = omega arith
-
   ranged : (l : Layout) (r : Time) → HoldsIn t l r → InRange t l r
   ranged (Cuc l) r h = h
   ranged (Cds l) r h = h
@@ -74,8 +71,8 @@ module _ (t : Table) (g : reckons t ≡ true) where
   pub held-written : (setting : Setting) (r : Time) (out : List ℕ) → Ready r setting out → Holds t setting r → Done (written t r setting out)
   held-written (Binary p e front) r out d (l, (lays, h)) =
       let (c, w) = in-range t g p e r (d .source) l lays (ranged l r h) in
-      let k : A.bit front + widthOf l ≤ length out = rw lays at (d .room) in
-      (codeOf front p c, writes-by t r p e front out l c (d .source) lays w (omega (arith, code-size front p c, bytes-width t l r c w)))
+      let k : bit front + widthOf l ≤ length out = rw lays at (d .room) in
+      (codeOf front p c, writes-by t r p e front out l c (d .source) lays w (omega (arith, code-length front p c (widthOf l) (bytes-width t l r c w))))
   held-written (Ascii l) r out d h =
       let (u, q) = h in
       let (code, w) = TP.covered-written t g l r (d .source) (d .settings) u q in

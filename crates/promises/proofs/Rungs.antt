@@ -147,7 +147,7 @@ pub rise : {A B : Type 0} (b : Bool) (n : ℕ) (x : Outcome A) (k : A → Outcom
 rise true n x k m f = f refl
 rise false n x k m f = refl
 
-pub climbed : {A B : Type 0} (rs : List Rung) (a : A) (k : A → Outcome B) (m : Outcome (Unit {0})) → (allHold rs ≡ true → verdict (k a) ≡ m) → verdict (andThen (climb rs a) k) ≡ under rs m
+climbed : {A B : Type 0} (rs : List Rung) (a : A) (k : A → Outcome B) (m : Outcome (Unit {0})) → (allHold rs ≡ true → verdict (k a) ≡ m) → verdict (andThen (climb rs a) k) ≡ under rs m
 climbed [] a k m f = f refl
 climbed (r ∷ rs) a k m f =
     rise (r .holds) (r .number) (climb rs a) k (under rs m) (λ h. climbed rs a k m (λ g. f (and-yes (allHold rs) h ∙ g)))

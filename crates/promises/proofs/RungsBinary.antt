@@ -1,8 +1,8 @@
 -- Binary codes are refused by their rungs, in reading by any table, and in writing by any that reckons.
 use mathlib.Core.Path.{_≡_, refl, ap, _∙_}
-use mathlib.Core.Bool.{Bool, true, false, cond, _&&_, _||_}
+use mathlib.Core.Bool.{Bool, true, false, cond, _&&_}
 use mathlib.Core.List.{List, [], _∷_, _++_}
-use Prim.Native.Nat.{ℕ, _+_, _%_}
+use Prim.Native.Nat.{ℕ, _+_}
 use native.Mathlib.Omega.{arith}
 use lib.Dec.{leb, ltb, eqb}
 use lib.IntN.{ℤ}
@@ -13,7 +13,6 @@ use Rattle.base.proofs.Bools.{never-both, and-one}
 use Rattle.scale.specs.Time.{Time, isRecord}
 use Rattle.leap.specs.Table.{Table}
 use Rattle.moment.specs.Moment.{isMoment}
-use Rattle.moment.specs.declared.Moment.{Moment}
 use Rattle.utc.specs.Reckoning.{reckons}
 use Rattle.utc.proofs.Laws.{moment-valid, moment-index}
 use Rattle.cuc.specs.Cuc as U
@@ -28,7 +27,8 @@ use Rattle.ccs.specs.Ccs as C
 use Rattle.ccs.specs.declared.Layout.{Layout as CcsLayout}
 use Rattle.ccs.proofs.Rungs as CR
 use Rattle.ccs.proofs.Promises as CP
-use Rattle.codes.specs.PField.{ident, known, bit4, cucLaid, cdsLaid, ccsLaid, laid}
+use Rattle.ascii.specs.Ascii.{bit}
+use Rattle.codes.specs.PField.{ident, known, cucLaid, cdsLaid, ccsLaid, laid}
 use Rattle.codes.specs.Reading.{fieldOf, widthOf, scanned, scanIn, scanAt, scanOf}
 use Rattle.codes.specs.Writing.{bytesOf, codeOf, fronted, writeOf}
 use Rattle.codes.specs.declared.Preamble.{Preamble}
@@ -39,7 +39,7 @@ use Rattle.codes.proofs.Layouts.{isLayoutOf, laid-good}
 use Rattle.promises.specs.Rungs.{rung, allHold}
 use Rattle.promises.specs.Octet.{unextended, bits67, segments}
 use Rattle.promises.specs.RungsCalendar.{coveredSecond}
-use Rattle.promises.specs.RungsBinary.{octetRungs, cucEpochGood, cucOf, cdsOf, ccsOf, layoutOf, octetsOf, fieldRungs, readBinaryRungs, targetGood, codeOctets, targetRungs, writeBinaryRungs}
+use Rattle.promises.specs.RungsBinary.{octetRungs, cucEpochGood, cdsEpochGood, cucOf, cdsOf, ccsOf, layoutOf, octetsOf, fieldRungs, readBinaryRungs, targetGood, codeOctets, targetRungs, writeBinaryRungs}
 use Rattle.promises.proofs.Rungs.{verdict, judged, climb, climbs-up, step, after, need-both, verdict-given}
 use Rattle.promises.proofs.RungsCalendar.{momentHere, here-day, moment-here, written-rungs}
 use Rattle.promises.proofs.RungsAscii.{room-rung}
@@ -48,19 +48,13 @@ use Rattle.promises.proofs.RungsFields.{field-rungs}
 -- ---- the P octet
 pub laid-climbs : (o : ℕ) (e : ℤ) → laid o e ≡ climb (octetRungs o e) (layoutOf o e)
 unfolding laid ccsLaid cdsLaid cucLaid
-laid-climbs o e = ap (need (known (ident o)) 2) (go (eqb (ident o) 5) (eqb (ident o) 4) (ltb o 128))
+laid-climbs o e = ap (need (known (ident o)) 2) (go (eqb (ident o) 5) (eqb (ident o) 4) (unextended o))
   where
-    cuc : Bool
-    cuc = eqb (ident o) 1 || U.isEpoch e
-
-    cds : Bool
-    cds = eqb (bit4 o) 0 || D.isEpochDay e
-
-    go : (a b x : Bool) → need x 3 (cond a (need (ltb (o % 8) 7) 3 (done (Ccs (ccsOf o)))) (cond b (need (ltb (o % 4) 3) 3 (need cds 7 (done (Cds (cdsOf o e))))) (need cuc 7 (done (Cuc (cucOf o e))))))
-        ≡ need (x && cond a (ltb (o % 8) 7) (cond b (ltb (o % 4) 3) true)) 3 (need (cond a true (cond b cds cuc)) 7 (done (cond a (Ccs (ccsOf o)) (cond b (Cds (cdsOf o e)) (Cuc (cucOf o e))))))
-    go true b x = need-both x (ltb (o % 8) 7) 3 _
-    go false true x = need-both x (ltb (o % 4) 3) 3 _
-    go false false x = ap (λ (t : Bool). need t 3 (need cuc 7 (done (Cuc (cucOf o e))))) (and-one x)
+    go : (a b x : Bool) → need x 3 (cond a (need (ltb (segments o) 7) 3 (done (Ccs (ccsOf o)))) (cond b (need (ltb (bits67 o) 3) 3 (need (cdsEpochGood o e) 7 (done (Cds (cdsOf o e))))) (need (cucEpochGood o e) 7 (done (Cuc (cucOf o e))))))
+        ≡ need (x && cond a (ltb (segments o) 7) (cond b (ltb (bits67 o) 3) true)) 3 (need (cond a true (cond b (cdsEpochGood o e) (cucEpochGood o e))) 7 (done (cond a (Ccs (ccsOf o)) (cond b (Cds (cdsOf o e)) (Cuc (cucOf o e))))))
+    go true b x = need-both x (ltb (segments o) 7) 3 _
+    go false true x = need-both x (ltb (bits67 o) 3) 3 _
+    go false false x = ap (λ (t : Bool). need t 3 (need (cucEpochGood o e) 7 (done (Cuc (cucOf o e))))) (and-one x)
 
 -- the layout of an octet that is not refused is one of its code
 pub laid-so : (o : ℕ) (e : ℤ) → allHold (octetRungs o e) ≡ true → isLayoutOf (layoutOf o e) ≡ true
@@ -79,16 +73,16 @@ read-binary-rungs t s Front e = step (leb 1 (length s)) 1 _ _ (λ h. scan-rungs 
 read-binary-rungs t s (Given o) e = scan-rungs t s 0 o e
 
 -- ---- writing
-code-length : (front : Bool) (o : ℕ) (t : List ℕ) (w : ℕ) → length t ≡ w → length (codeOf front o t) ≡ cond front 1 0 + w
-code-length true o t w e = omega arith
-code-length false o t w e = omega arith
+pub code-length : (front : Bool) (o : ℕ) (c : List ℕ) (w : ℕ) → length c ≡ w → length (codeOf front o c) ≡ bit front + w
+code-length true o c w e = omega arith
+code-length false o c w e = omega arith
 
 module _ (o : ℕ) (front : Bool) (out : List ℕ) where
   -- a T-field of w octets where the target holds the source, and else 7
-  held-rungs : (x : Outcome (List ℕ)) (w : ℕ) (h : Bool) → (h ≡ true → (c : List ℕ) × ((x ≡ done c) × (length c ≡ w))) → (h ≡ false → x ≡ refused 7) → verdict (andThen x (fronted front o out)) ≡ judged (rung 7 h ∷ rung 8 (leb (cond front 1 0 + w) (length out)) ∷ [])
+  held-rungs : (x : Outcome (List ℕ)) (w : ℕ) (h : Bool) → (h ≡ true → (c : List ℕ) × ((x ≡ done c) × (length c ≡ w))) → (h ≡ false → x ≡ refused 7) → verdict (andThen x (fronted front o out)) ≡ judged (rung 7 h ∷ rung 8 (leb (bit front + w) (length out)) ∷ [])
   held-rungs x w true f n =
       let (c, (e, k)) = f refl in
-      ap (λ (y : Outcome (List ℕ)). verdict (andThen y (fronted front o out))) e ∙ room-rung (codeOf front o c) out (cond front 1 0 + w) (code-length front o c w k)
+      ap (λ (y : Outcome (List ℕ)). verdict (andThen y (fronted front o out))) e ∙ room-rung (codeOf front o c) out (bit front + w) (code-length front o c w k)
   held-rungs x w false f n = ap (λ (y : Outcome (List ℕ)). verdict (andThen y (fronted front o out))) (n refl)
 
   cds-held : (t : Table) (l : CdsLayout) (r : Time) → D.held l (momentHere t r .day) ≡ targetGood t (Cds l) r

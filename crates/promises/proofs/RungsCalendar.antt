@@ -2,14 +2,14 @@
 use mathlib.Core.Path.{_≡_, refl, sym, ap, _∙_}
 use mathlib.Core.Bool.{Bool, true, false, _&&_}
 use mathlib.Core.List.{List, [], _∷_}
-use Prim.Native.Nat.{ℕ, _+_, _-_, _<_, _≤_}
+use Prim.Native.Nat.{ℕ, _+_, _-_, _≤_}
 use native.Mathlib.Omega.{arith}
 use lib.Dec.{ltb, leb}
 use lib.IntN.{ℤ, pos, negsuc, negℤ, natAbs, _+ℤ_}
 use lib.Signed.{leZ, ltZ}
 use Rattle.base.specs.Outcome.{Outcome, done, need, andThen, given}
-use Rattle.base.specs.Parts.{plus, minus, at, within, loweredBy}
-use Rattle.base.proofs.Bools.{and-true, and-yes, and-no}
+use Rattle.base.specs.Parts.{at, within, loweredBy}
+use Rattle.base.proofs.Bools.{and-true, and-no}
 use Rattle.base.proofs.Ladders.{need-yes}
 use Rattle.base.proofs.Signed.{sum, apart, abs-is, neg-plus, neg-minus, le-yes, le-no, le-not, leZ-at, ltZ-at, lower-is, within-low, within-high}
 use Rattle.scale.specs.Time.{Time}
@@ -18,13 +18,12 @@ use Rattle.calendar.proofs.Promises.{ordinal-at-done, date-at-done}
 use Rattle.leap.specs.Table.{Table, covers, coversSecond, dayLength, dayHolding, start, reading, readingAt, secondAt}
 use Rattle.leap.specs.Utc.{dayRaise, secondRaise, raisedBy, readingOf, secondOf, utc, utcOfSecond, secondOfUtc}
 use Rattle.leap.specs.declared.Reading.{Reading}
-use Rattle.leap.specs.declared.Utc.{Utc}
 use Rattle.moment.specs.Moment.{moment}
 use Rattle.moment.specs.declared.Moment.{Moment}
 use Rattle.utc.specs.Reckoning.{timeOf, readBy, momentOf, writtenBy}
 use Rattle.utc.proofs.Laws.{time}
 use Rattle.promises.specs.Rungs.{Rung, rung, allHold}
-use Rattle.promises.specs.RungsCalendar.{dayOfDateRungs, dayOfOrdinalRungs, isDay, dateOfDayRungs, ordinalOfDayRungs, coveredDay, firstCovered, pastCover, coveredSecond, indexOf, hasSecond, utcOfSecondRungs, secondOfUtcRungs}
+use Rattle.promises.specs.RungsCalendar.{dayOfDateRungs, dayOfOrdinalRungs, isDay, dateOfDayRungs, ordinalOfDayRungs, coveredDay, pastCover, coveredSecond, indexOf, hasSecond, utcOfSecondRungs, secondOfUtcRungs}
 use Rattle.promises.specs.RungsBinary.{utcDay}
 use Rattle.promises.proofs.Rungs.{verdict, judged, climb, under, step, need-both, then-need, then-then, verdict-given, given-climb, after}
 
@@ -66,7 +65,7 @@ module _ (B : ℕ) (z : ℤ) where
       le-not (loweredBy B a) z (omega (arith, h, neg-plus (pos B), neg-minus (pos B), lower-is B a))
 
   -- so a raised number is from a on where the number itself is, and what is said of it besides matters once it was raised
-  pub raised-from : (a : ℕ) (c d : Bool) → (at B (natAbs (z +ℤ pos B)) z → c ≡ d) → leZ (negℤ (pos B)) z && (leb a (natAbs (z +ℤ pos B)) && c) ≡ leZ (loweredBy B a) z && d
+  raised-from : (a : ℕ) (c d : Bool) → (at B (natAbs (z +ℤ pos B)) z → c ≡ d) → leZ (negℤ (pos B)) z && (leb a (natAbs (z +ℤ pos B)) && c) ≡ leZ (loweredBy B a) z && d
   raised-from a c d f = go (leZ (negℤ (pos B)) z) refl
     where
       go : (b : Bool) → leZ (negℤ (pos B)) z ≡ b → b && (leb a (natAbs (z +ℤ pos B)) && c) ≡ leZ (loweredBy B a) z && d
@@ -104,7 +103,7 @@ module _ (t : Table) where
 
   pub utc-climbs : (z : ℤ) → utcOfSecond t z ≡ climb (rung 5 (coveredSecond t z) ∷ []) (utc (readingHere z))
   unfolding utcOfSecond
-  utc-climbs z = ap (λ (o : Outcome Reading). given utc o) (reading-climbs z) ∙ given-climb utc (rung 5 (coveredSecond t z) ∷ []) (readingHere z)
+  utc-climbs z = ap (given utc) (reading-climbs z) ∙ given-climb utc (rung 5 (coveredSecond t z) ∷ []) (readingHere z)
 
   pub utc-of-second-rungs : (z : ℤ) → verdict (utcOfSecond t z) ≡ judged (utcOfSecondRungs t z)
   utc-of-second-rungs z = ap verdict (utc-climbs z) ∙ step (coveredSecond t z) 5 _ _ (λ h. refl)

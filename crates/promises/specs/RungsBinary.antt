@@ -17,6 +17,7 @@ use Rattle.cuc.specs.declared.Layout as U
 use Rattle.cds.specs.Cds.{isEpochDay}
 use Rattle.cds.specs.declared.Layout as D
 use Rattle.ccs.specs.declared.Layout as C
+use Rattle.ascii.specs.Ascii.{bit}
 use Rattle.codes.specs.PField.{ident, known}
 use Rattle.codes.specs.declared.Preamble.{Preamble}
 use Rattle.codes.specs.declared.pfield.Layout.{Layout}
@@ -34,8 +35,11 @@ supported o = unextended o && byCode o true (ltb (bits67 o) 3) (ltb (segments o)
 abbrev pub cucEpochGood : ℕ → ℤ → Bool
 cucEpochGood o e = cucFrom1958 o || isEpoch e
 
+abbrev pub cdsEpochGood : ℕ → ℤ → Bool
+cdsEpochGood o e = cdsFrom1958 o || isEpochDay e
+
 abbrev pub epochGood : ℕ → ℤ → Bool
-epochGood o e = byCode o (cucEpochGood o e) (cdsFrom1958 o || isEpochDay e) true
+epochGood o e = byCode o (cucEpochGood o e) (cdsEpochGood o e) true
 
 abbrev pub octetRungs : ℕ → ℤ → List Rung
 octetRungs o e = rung 2 (known (ident o)) ∷ rung 3 (supported o) ∷ rung 7 (epochGood o e) ∷ []
@@ -139,7 +143,7 @@ targetGood t (Ccs l) r = true
 
 -- the octets of the code: the P octet's, where it is written, and the T-field's
 abbrev pub codeOctets : Bool → Layout → ℕ
-codeOctets front l = cond front 1 0 + octetsOf l
+codeOctets front l = bit front + octetsOf l
 
 abbrev pub targetRungs : Table → Layout → Time → Bool → List ℕ → List Rung
 targetRungs t l r front out =
