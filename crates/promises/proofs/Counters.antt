@@ -1,22 +1,22 @@
 -- A CUC tag is read as a code is: its first moment is what its bytes read to, and its period is that of its P octet.
 use mathlib.Core.Path.{_≡_, sym, ap, _∙_}
-use mathlib.Core.Bool.{Bool, true, false, cond, _||_}
+use mathlib.Core.Bool.{Bool, true, false, cond, false≢true}
 use mathlib.Core.List.{List}
 use mathlib.Core.Logic.{_↔_}
-use Prim.Native.Nat.{ℕ, _+_, _%_, _^_}
+use Prim.Native.Nat.{ℕ, _+_, _^_}
 use native.Mathlib.Omega.{arith}
 use borrow.Author.Tests.{le-leb}
-use lib.Dec.{ltb, eqb}
+use lib.Dec.{eqb}
 use lib.IntN.{ℤ}
 use lib.ListN.{length, getD}
 use Rattle.base.specs.Outcome.{Outcome, done, andThen, given}
-use Rattle.base.proofs.Ladders.{need-yes, need-done, done-is}
+use Rattle.base.proofs.Ladders.{need-yes, done-is}
 use Rattle.scale.specs.Time.{Time}
-use Rattle.cuc.specs.Cuc.{isEpoch, width, field}
+use Rattle.leap.specs.Table.{Table}
+use Rattle.cuc.specs.Cuc.{width, field}
 use Rattle.cuc.specs.declared.Layout as U
 use Rattle.cuc.proofs.Fields.{field-by}
-use Rattle.cds.specs.Cds.{isEpochDay}
-use Rattle.codes.specs.PField.{ident, known, bit4, laid, cucLaid, cdsLaid, ccsLaid}
+use Rattle.codes.specs.PField.{ident, laid}
 use Rattle.codes.specs.Reading.{Scanned, scanned, scanIn, scanAt, scanOf}
 use Rattle.codes.specs.declared.Preamble.{Preamble}
 use Rattle.codes.specs.declared.Preamble.the-variants.{Front, Given}
@@ -25,78 +25,68 @@ use Rattle.codes.specs.declared.pfield.Layout.the-variants.{Cuc, Cds, Ccs}
 use Rattle.codes.proofs.Layouts.{laid-good}
 use Rattle.tags.specs.CucTag.{Periodic, tagOf, Names}
 use Rattle.tags.proofs.CucPromises.{Made, made-apart, made-front}
-use Rattle.promises.specs.Promises.{octetOf, coarse, Counted}
+use Rattle.promises.specs.Octet.{octetIn, coarse}
+use Rattle.promises.specs.Promises.{Counted}
+use Rattle.promises.specs.RungsBinary.{octetRungs, cucOf, cdsOf, ccsOf, layoutOf}
+use Rattle.promises.proofs.Rungs.{climb-is}
+use Rattle.promises.proofs.RungsBinary.{laid-climbs}
 
 -- ---- the layout of a P octet that says CUC
+abbrev isCuc : Layout → Bool
+isCuc (Cuc l) = true
+isCuc (Cds l) = false
+isCuc (Ccs l) = false
+
 abbrev coarseIn : Layout → ℕ
 coarseIn (Cuc l) = l .coarse
 coarseIn (Cds l) = 0
 coarseIn (Ccs l) = 0
 
-not-cds : {X : Type 0} (o : ℕ) (e : ℤ) (l : U.Layout) → cdsLaid o e ≡ done (Cuc l) → X
-unfolding cdsLaid
-not-cds o e l h =
-    let k = done-is _ (Cuc l) (need-done (eqb (bit4 o) 0 || isEpochDay e) 7 _ (Cuc l) (need-done (ltb (o % 4) 3) 3 _ (Cuc l) h .1) .1) in
-    let z : _≡_ {A = ℕ} 0 1 = cc in
-    absurd (omega arith)
-
-not-ccs : {X : Type 0} (o : ℕ) (l : U.Layout) → ccsLaid o ≡ done (Cuc l) → X
-unfolding ccsLaid
-not-ccs o l h =
-    let k = done-is _ (Cuc l) (need-done (ltb (o % 8) 7) 3 _ (Cuc l) h .1) in
-    let z : _≡_ {A = ℕ} 0 1 = cc in
-    absurd (omega arith)
-
-coarse-by : (o : ℕ) (e : ℤ) (l : U.Layout) → cucLaid o e ≡ done (Cuc l) → l .coarse ≡ coarse o
-unfolding cucLaid
-coarse-by o e l h =
-    sym (ap coarseIn (done-is _ (Cuc l) (need-done (eqb (ident o) 1 || isEpoch e) 7 _ (Cuc l) h .1)))
-
 laid-coarse : (o : ℕ) (e : ℤ) (l : U.Layout) → laid o e ≡ done (Cuc l) → l .coarse ≡ coarse o
-unfolding laid
-laid-coarse o e l h = go (eqb (ident o) 5) (eqb (ident o) 4) (need-done (ltb o 128) 3 _ (Cuc l) (need-done (known (ident o)) 2 _ (Cuc l) h .1) .1)
+laid-coarse o e l h = go (eqb (ident o) 5) (eqb (ident o) 4) (climb-is (octetRungs o e) (layoutOf o e) (Cuc l) (sym (laid-climbs o e) ∙ h))
   where
-    go : (a b : Bool) → cond a (ccsLaid o) (cond b (cdsLaid o e) (cucLaid o e)) ≡ done (Cuc l) → l .coarse ≡ coarse o
-    go true b k = not-ccs o l k
-    go false true k = not-cds o e l k
-    go false false k = coarse-by o e l k
+    go : (a b : Bool) → cond a (Ccs (ccsOf o)) (cond b (Cds (cdsOf o e)) (Cuc (cucOf o e))) ≡ Cuc l → l .coarse ≡ coarse o
+    go true b k = absurd (false≢true (ap isCuc k))
+    go false true k = absurd (false≢true (ap isCuc k))
+    go false false k = sym (ap coarseIn k)
 
--- ---- the tag
-record Tagged (s : List ℕ) (at o : ℕ) (e : ℤ) (g : Periodic) : Type 0 where
-  reads : scanAt s at o e ≡ done (scanned (length s) (g .first))
-  repeats : g .period ≡ 256 ^ coarse o
+module _ (t : Table) where
+  -- ---- the tag, by any table: a CUC code asks none
+  record Tagged (s : List ℕ) (at o : ℕ) (e : ℤ) (g : Periodic) : Type 0 where
+    reads : scanAt t s at o e ≡ done (scanned (length s) (g .first))
+    repeats : g .period ≡ 256 ^ coarse o
 
-tagged : (s : List ℕ) (at o : ℕ) (e : ℤ) (g : Periodic) → Made s at o e g → Tagged s at o e g
-unfolding scanAt scanIn
-tagged s at o e g d =
-    let l = d .layout in
-    let f : field s at l ≡ done (g .first) =
-    field-by s at l (laid-good o e (Cuc l) (d .lays)) _ (d .counts) ∙ ap (λ (y : Periodic). done (y .first)) (d .is) in
-    record {
-      reads =
-          ap (λ (x : Outcome Layout). andThen x (scanIn s at)) (d .lays)
-          ∙ ap (given (scanned (at + width l))) f
-          ∙ ap (λ (n : ℕ). done (scanned n (g .first))) (d .ends);
-      repeats = sym (ap (λ (y : Periodic). y .period) (d .is)) ∙ ap (λ (c : ℕ). 256 ^ c) (laid-coarse o e l (d .lays));
-    }
+  tagged : (s : List ℕ) (at o : ℕ) (e : ℤ) (g : Periodic) → Made s at o e g → Tagged s at o e g
+  unfolding scanAt scanIn
+  tagged s at o e g d =
+      let l = d .layout in
+      let f : field s at l ≡ done (g .first) =
+      field-by s at l (laid-good o e (Cuc l) (d .lays)) _ (d .counts) ∙ ap (λ (y : Periodic). done (y .first)) (d .is) in
+      record {
+        reads =
+            ap (λ (x : Outcome Layout). andThen x (scanIn t s at)) (d .lays)
+            ∙ ap (given (scanned (at + width l))) f
+            ∙ ap (λ (n : ℕ). done (scanned n (g .first))) (d .ends);
+        repeats = sym (ap (λ (y : Periodic). y .period) (d .is)) ∙ ap (λ (c : ℕ). 256 ^ c) (laid-coarse o e l (d .lays));
+      }
 
-pub tag-reads : (s : List ℕ) (p : Preamble) (e : ℤ) (g : Periodic) → tagOf s p e ≡ done g → (scanOf s p e ≡ done (scanned (length s) (g .first))) × (g .period ≡ 256 ^ coarse (octetOf p s))
-unfolding scanOf
-tag-reads s (Given o) e g h = let t = tagged s 0 o e g (made-apart s o e g h) in (t .reads, t .repeats)
-tag-reads s Front e g h =
-    let d = made-front s e g h in
-    let t = tagged s 1 (getD s 0 0) e g d in
-    (need-yes 1 _ (le-leb 1 (length s) (omega (arith, d .ends))) ∙ t .reads, t .repeats)
+  pub tag-reads : (s : List ℕ) (p : Preamble) (e : ℤ) (g : Periodic) → tagOf s p e ≡ done g → (scanOf t s p e ≡ done (scanned (length s) (g .first))) × (g .period ≡ 256 ^ coarse (octetIn s p))
+  unfolding scanOf
+  tag-reads s (Given o) e g h = let w = tagged s 0 o e g (made-apart s o e g h) in (w .reads, w .repeats)
+  tag-reads s Front e g h =
+      let d = made-front s e g h in
+      let w = tagged s 1 (getD s 0 0) e g d in
+      (need-yes 1 _ (le-leb 1 (length s) (omega (arith, d .ends))) ∙ w .reads, w .repeats)
 
--- so it names what its listing's rule names
-pub counted-names : (s : List ℕ) (p : Preamble) (e : ℤ) (g : Periodic) → tagOf s p e ≡ done g → (m : Time) → Counted s p e m ↔ Names g m
-counted-names s p e g h m = (forth, back)
-  where
-    forth : Counted s p e m → Names g m
-    forth c =
-        let (r, q) = tag-reads s p e g h in
-        let i : c .first ≡ g .first = ap (λ (y : Scanned). y .moment) (done-is _ _ (sym (c .reads) ∙ r)) in
-        (c .k, rw (q, ← i) (c .exact))
+  -- so it names what its listing's rule names
+  pub counted-names : (s : List ℕ) (p : Preamble) (e : ℤ) (g : Periodic) → tagOf s p e ≡ done g → (m : Time) → Counted t s p e m ↔ Names g m
+  counted-names s p e g h m = (forth, back)
+    where
+      forth : Counted t s p e m → Names g m
+      forth c =
+          let (r, q) = tag-reads s p e g h in
+          let i : c .first ≡ g .first = ap (λ (y : Scanned). y .moment) (done-is _ _ (sym (c .reads) ∙ r)) in
+          (c .k, rw (q, ← i) (c .exact))
 
-    back : Names g m → Counted s p e m
-    back (k, x) = let (r, q) = tag-reads s p e g h in record { first = g .first; reads = r; k = k; exact = rw (← q) x }
+      back : Names g m → Counted t s p e m
+      back (k, x) = let (r, q) = tag-reads s p e g h in record { first = g .first; reads = r; k = k; exact = rw (← q) x }

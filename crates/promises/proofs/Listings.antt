@@ -1,5 +1,6 @@
--- What stands in the lent list, for any kind of tag.
+-- What stands in the lent list, for any kind of tag, by any table that reckons.
 use mathlib.Core.Path.{_≡_, refl, sym, subst}
+use mathlib.Core.Bool.{true}
 use mathlib.Core.List.{List, [], _∷_}
 use mathlib.Core.Logic.{_⊎_, inl, inr, ⊎-elim, _↔_}
 use Prim.Native.Nat.{ℕ, zero, suc, _<_, min}
@@ -12,6 +13,8 @@ use Rattle.base.specs.Outcome.{done, given}
 use Rattle.base.proofs.Ladders.{given-done}
 use Rattle.base.proofs.Signed.{lt-yes}
 use Rattle.scale.specs.Time.{Time}
+use Rattle.leap.specs.Table.{Table}
+use Rattle.utc.specs.Reckoning.{reckons}
 use Rattle.window.specs.Among.{Among, here, there, Ascending, first}
 use Rattle.window.specs.Window.{Listed, Named, listed, filled, leaves}
 use Rattle.tags.specs.Records.{IsListed, Sooner}
@@ -70,7 +73,7 @@ module _ (all entry : List ℤ) where
   filled-rest = drop-at (take fit all) (drop fit entry) fit cut-length
 
 -- a list of all wanted moments, ascending, put into a lent list
-module _ (tag : Shortened) (from to : Time) (x : Named ℤ) (exact : (m : Time) → IsListed x m ↔ Wanted tag from to m) (up : Ascending Sooner (x .all)) (entry : List ℤ) where
+module _ (t : Table) (tag : Shortened) (from to : Time) (x : Named ℤ) (exact : (m : Time) → IsListed x m ↔ Wanted t tag from to m) (up : Ascending Sooner (x .all)) (entry : List ℤ) where
   abbrev here-first : List ℤ
   here-first = take (fit (x .all) entry) (x .all)
 
@@ -84,7 +87,7 @@ module _ (tag : Shortened) (from to : Time) (x : Named ℤ) (exact : (m : Time) 
   into-list : (z : ℤ) → Among z here-first → Among z (take (fit (x .all) entry) (filled (x .all) entry))
   into-list z i = subst (Among z) (sym (filled-first (x .all) entry)) i
 
-  left : (m : Time) → Wanted tag from to m → (Among (m .sec) (take (fit (x .all) entry) (filled (x .all) entry)) → ⊥) → Among (m .sec) further
+  left : (m : Time) → Wanted t tag from to m → (Among (m .sec) (take (fit (x .all) entry) (filled (x .all) entry)) → ⊥) → Among (m .sec) further
   left m w out =
       ⊎-elim (λ (j : Among (m .sec) here-first). absurd (out (into-list (m .sec) j))) (λ (j : Among (m .sec) further). j) (among-split (fit (x .all) entry) (x .all) (exact m .1 w .1))
 
@@ -92,13 +95,13 @@ module _ (tag : Shortened) (from to : Time) (x : Named ℤ) (exact : (m : Time) 
   full z j = let h = left-some (fit (x .all) entry) (x .all) j in omega arith
 
   -- one that was left over, as a moment
-  over : length entry < length (x .all) → (m : Time) × (Wanted tag from to m × (Among (m .sec) (take (fit (x .all) entry) (filled (x .all) entry)) → ⊥))
+  over : length entry < length (x .all) → (m : Time) × (Wanted t tag from to m × (Among (m .sec) (take (fit (x .all) entry) (filled (x .all) entry)) → ⊥))
   over h =
       let (z, j) = some-left (fit (x .all) entry) (x .all) (omega arith) in
       let m : Time = record { sec = z; ticks = x .ticks } in
       (m, (exact m .0 (refl, among-drop (fit (x .all) entry) (x .all) j), λ i. not-self z (apart Sooner (fit (x .all) entry) (x .all) up (in-list z i) j)))
 
-  lists : Lists tag from to entry (filled (x .all) entry) (listed entry x)
+  lists : Lists t tag from to entry (filled (x .all) entry) (listed entry x)
   unfolding listed
   lists =
       record {
@@ -116,26 +119,27 @@ module _ (tag : Shortened) (from to : Time) (x : Named ℤ) (exact : (m : Time) 
       }
 
 -- ---- both kinds
-exactly-by : (tag : Shortened) (from to : Time) (x : Named ℤ) → listBy tag from to ≡ done x → (m : Time) → IsListed x m ↔ Wanted tag from to m
-exactly-by (counter s p e) from to x h m =
-    let (g, says) = C.lists-tag s p e from to x h in
-    let (to-named, to-listed) = C.lists-exactly s p e g says from to x h m in
-    let (to-names, to-counted) = counted-names s p e g says m in (
-      λ i. let (v, n, j) = to-named i in record { named = (v, to-counted n); inside = j },
-      λ w. let (v, c) = w .named in to-listed (v, to-names c, w .inside),
-    )
-exactly-by (letters s) from to x h m =
-    let (to-named, to-listed) = A.lists-exactly s from to x h m in
-    (λ i. let (n, j) = to-named i in record { named = n; inside = j }, λ w. to-listed (w .named, w .inside))
+module _ (t : Table) (g : reckons t ≡ true) where
+  exactly-by : (tag : Shortened) (from to : Time) (x : Named ℤ) → listBy t tag from to ≡ done x → (m : Time) → IsListed x m ↔ Wanted t tag from to m
+  exactly-by (counter s p e) from to x h m =
+      let (c, says) = C.lists-tag s p e from to x h in
+      let (to-named, to-listed) = C.lists-exactly s p e c says from to x h m in
+      let (to-names, to-counted) = counted-names t s p e c says m in (
+        λ i. let (v, n, j) = to-named i in record { named = (v, to-counted n); inside = j },
+        λ w. let (v, n) = w .named in to-listed (v, to-names n, w .inside),
+      )
+  exactly-by (letters s) from to x h m =
+      let (to-named, to-listed) = A.lists-exactly t s from to x h g m in
+      (λ i. let (n, j) = to-named i in record { named = n; inside = j }, λ w. to-listed (w .named, w .inside))
 
-ascending-by : (tag : Shortened) (from to : Time) (x : Named ℤ) → listBy tag from to ≡ done x → Ascending Sooner (x .all)
-ascending-by (counter s p e) from to x h = let (g, says) = C.lists-tag s p e from to x h in C.lists-ascending s p e g says from to x h
-ascending-by (letters s) from to x h = A.lists-ascending s from to x h
+  ascending-by : (tag : Shortened) (from to : Time) (x : Named ℤ) → listBy t tag from to ≡ done x → Ascending Sooner (x .all)
+  ascending-by (counter s p e) from to x h = let (c, says) = C.lists-tag s p e from to x h in C.lists-ascending s p e c says from to x h
+  ascending-by (letters s) from to x h = A.lists-ascending t s from to x h
 
-lists-of : (tag : Shortened) (from to : Time) (entry : List ℤ) (answer : Listed) (x : Named ℤ) → listBy tag from to ≡ done x → listed entry x ≡ answer → Lists tag from to entry (leaves (listBy tag from to) entry) answer
-lists-of tag from to entry answer x e i =
-    rw (e, ← i) (lists tag from to x (exactly-by tag from to x e) (ascending-by tag from to x e) entry)
+  lists-of : (tag : Shortened) (from to : Time) (entry : List ℤ) (answer : Listed) (x : Named ℤ) → listBy t tag from to ≡ done x → listed entry x ≡ answer → Lists t tag from to entry (leaves (listBy t tag from to) entry) answer
+  lists-of tag from to entry answer x e i =
+      rw (e, ← i) (lists t tag from to x (exactly-by tag from to x e) (ascending-by tag from to x e) entry)
 
-pub lists-by : (tag : Shortened) (from to : Time) (entry : List ℤ) (answer : Listed) → given (listed entry) (listBy tag from to) ≡ done answer → Lists tag from to entry (leaves (listBy tag from to) entry) answer
-lists-by tag from to entry answer h =
-    let (x, (e, i)) = given-done (listed entry) (listBy tag from to) answer h in lists-of tag from to entry answer x e i
+  pub lists-by : (tag : Shortened) (from to : Time) (entry : List ℤ) (answer : Listed) → given (listed entry) (listBy t tag from to) ≡ done answer → Lists t tag from to entry (leaves (listBy t tag from to) entry) answer
+  lists-by tag from to entry answer h =
+      let (x, (e, i)) = given-done (listed entry) (listBy t tag from to) answer h in lists-of tag from to entry answer x e i

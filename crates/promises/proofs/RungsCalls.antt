@@ -1,28 +1,31 @@
--- For each call of the C interface and each refusal number: the answer is that refusal exactly when its condition, in document 01's words, is broken and no earlier one is.
+-- For each call of the C interface and each refusal number: the answer is that refusal exactly when its condition, in document 01's words, is broken and no earlier one is, and a result exactly when none is. By any table, or any that reckons.
 use mathlib.Core.Path.{_≡_, refl}
-use mathlib.Core.Bool.{Bool}
+use mathlib.Core.Bool.{Bool, true}
 use mathlib.Core.List.{List, [], _∷_, map}
 use Prim.Native.Nat.{ℕ}
 use lib.IntN.{ℤ}
 use Rattle.scale.specs.Time.{Time, differenceOf, shiftOf}
 use Rattle.calendar.specs.Gregorian.{dayOfDate, dayOfOrdinal, dateOfDay, ordinalOfDay}
-use Rattle.leap.specs.Builtin.{builtin}
+use Rattle.leap.specs.Table.{Table}
 use Rattle.leap.specs.Utc.{utcOfSecond, secondOfUtc}
-use Rattle.ascii.specs.Ascii.{text}
+use Rattle.utc.specs.Reckoning.{reckons}
 use Rattle.ascii.specs.declared.Layout.{Layout}
 use Rattle.codes.specs.Reading.{scanOf}
-use Rattle.codes.specs.Writing.{writeOf}
+use Rattle.codes.specs.Writing.{writeOf, from}
+use Rattle.codes.specs.Text.{textOf}
 use Rattle.codes.specs.Setting.{asciiOf, wallOf}
 use Rattle.codes.specs.declared.Preamble.{Preamble}
 use Rattle.tags.specs.CucTag.{listCuc}
 use Rattle.tags.specs.AsciiTag.{listAscii}
-use Rattle.promises.specs.Rungs.{Rung, Exactly}
+use Rattle.promises.specs.Promises as P
+use Rattle.promises.specs.Rungs.{Rung, numbered, Exactly}
 use Rattle.promises.specs.RungsScale.{differenceRungs, shiftRungs}
 use Rattle.promises.specs.RungsCalendar.{dayOfDateRungs, dayOfOrdinalRungs, dateOfDayRungs, ordinalOfDayRungs, utcOfSecondRungs, secondOfUtcRungs}
 use Rattle.promises.specs.RungsAscii.{readAsciiRungs, writeAsciiRungs, writeWallRungs}
 use Rattle.promises.specs.RungsBinary.{readBinaryRungs, writeBinaryRungs}
 use Rattle.promises.specs.RungsTags.{listCucRungs, listAsciiRungs}
-use Rattle.promises.proofs.Rungs.{exactly}
+use Rattle.promises.specs.RungsCalls.{rungsOf}
+use Rattle.promises.proofs.Rungs.{by-rungs}
 use Rattle.promises.proofs.RungsScale.{difference-rungs, shift-rungs}
 use Rattle.promises.proofs.RungsCalendar.{day-of-date-rungs, day-of-ordinal-rungs, date-of-day-rungs, ordinal-of-day-rungs, utc-of-second-rungs, second-of-utc-rungs}
 use Rattle.promises.proofs.RungsAscii.{read-ascii-rungs, write-ascii-rungs, write-wall-rungs}
@@ -33,61 +36,99 @@ use Rattle.promises.proofs.RungsTags.{list-cuc-rungs, list-ascii-rungs}
 abbrev numbers : List Rung → List ℕ
 numbers rs = map (λ r. r .number) rs
 
-pub reading-order : (s : List ℕ) (p : Preamble) (e : ℤ) → (numbers (readBinaryRungs s p e) ≡ 1 ∷ 2 ∷ 3 ∷ 7 ∷ 1 ∷ 4 ∷ 5 ∷ 6 ∷ []) × (numbers (readAsciiRungs s) ≡ 1 ∷ 4 ∷ 5 ∷ 6 ∷ [])
-reading-order s p e = (refl, refl)
+pub reading-order : (t : Table) (s : List ℕ) (p : Preamble) (e : ℤ) → (numbers (readBinaryRungs t s p e) ≡ 1 ∷ 2 ∷ 3 ∷ 7 ∷ 1 ∷ 4 ∷ 5 ∷ 6 ∷ []) × (numbers (readAsciiRungs t s) ≡ 1 ∷ 4 ∷ 5 ∷ 6 ∷ [])
+reading-order t s p e = (refl, refl)
 
-pub writing-order : (r : Time) (o : ℕ) (e : ℤ) (front : Bool) (l : Layout) (out : List ℕ) → (numbers (writeBinaryRungs r o e front out) ≡ 7 ∷ 2 ∷ 3 ∷ 7 ∷ 5 ∷ 7 ∷ 8 ∷ []) × (numbers (writeAsciiRungs l r out) ≡ 7 ∷ 3 ∷ 5 ∷ 8 ∷ []) × (numbers (writeWallRungs r out) ≡ 7 ∷ 5 ∷ 8 ∷ [])
-writing-order r o e front l out = (refl, refl, refl)
+pub writing-order : (t : Table) (r : Time) (o : ℕ) (e : ℤ) (front : Bool) (l : Layout) (out : List ℕ) → (numbers (writeBinaryRungs t r o e front out) ≡ 7 ∷ 2 ∷ 3 ∷ 7 ∷ 5 ∷ 7 ∷ 8 ∷ []) × (numbers (writeAsciiRungs t l r out) ≡ 7 ∷ 3 ∷ 5 ∷ 8 ∷ []) × (numbers (writeWallRungs t r out) ≡ 7 ∷ 5 ∷ 8 ∷ [])
+writing-order t r o e front l out = (refl, refl, refl)
 
-pub listing-order : (s : List ℕ) (p : Preamble) (e : ℤ) (from to : Time) → (numbers (listCucRungs s p e from to) ≡ 1 ∷ 2 ∷ 3 ∷ 7 ∷ 1 ∷ 4 ∷ 7 ∷ 7 ∷ 9 ∷ []) × (numbers (listAsciiRungs s from to) ≡ 1 ∷ 4 ∷ 7 ∷ 7 ∷ 9 ∷ 5 ∷ [])
-listing-order s p e from to = (refl, refl)
+pub listing-order : (t : Table) (s : List ℕ) (p : Preamble) (e : ℤ) (from to : Time) → (numbers (listCucRungs s p e from to) ≡ 1 ∷ 2 ∷ 3 ∷ 7 ∷ 1 ∷ 4 ∷ 7 ∷ 7 ∷ 9 ∷ []) × (numbers (listAsciiRungs t s from to) ≡ 1 ∷ 4 ∷ 7 ∷ 7 ∷ 9 ∷ 5 ∷ [])
+listing-order t s p e from to = (refl, refl)
 
 -- ---- records and spans
 pub difference : (a b : Time) → Exactly (differenceOf a b) (differenceRungs a b)
-difference a b = exactly (differenceOf a b) (differenceRungs a b) (difference-rungs a b) refl
+difference a b = by-rungs (differenceOf a b) (differenceRungs a b) (difference-rungs a b)
 
 pub shift : (r s : Time) → Exactly (shiftOf r s) (shiftRungs r s)
-shift r s = exactly (shiftOf r s) (shiftRungs r s) (shift-rungs r s) refl
+shift r s = by-rungs (shiftOf r s) (shiftRungs r s) (shift-rungs r s)
 
 -- ---- the calendar
 pub day-of-date : (y m d : ℕ) → Exactly (dayOfDate y m d) (dayOfDateRungs y m d)
-day-of-date y m d = exactly (dayOfDate y m d) (dayOfDateRungs y m d) (day-of-date-rungs y m d) refl
+day-of-date y m d = by-rungs (dayOfDate y m d) (dayOfDateRungs y m d) (day-of-date-rungs y m d)
 
 pub day-of-ordinal : (y d : ℕ) → Exactly (dayOfOrdinal y d) (dayOfOrdinalRungs y d)
-day-of-ordinal y d = exactly (dayOfOrdinal y d) (dayOfOrdinalRungs y d) (day-of-ordinal-rungs y d) refl
+day-of-ordinal y d = by-rungs (dayOfOrdinal y d) (dayOfOrdinalRungs y d) (day-of-ordinal-rungs y d)
 
 pub date-of-day : (z : ℤ) → Exactly (dateOfDay z) (dateOfDayRungs z)
-date-of-day z = exactly (dateOfDay z) (dateOfDayRungs z) (date-of-day-rungs z) refl
+date-of-day z = by-rungs (dateOfDay z) (dateOfDayRungs z) (date-of-day-rungs z)
 
 pub ordinal-of-day : (z : ℤ) → Exactly (ordinalOfDay z) (ordinalOfDayRungs z)
-ordinal-of-day z = exactly (ordinalOfDay z) (ordinalOfDayRungs z) (ordinal-of-day-rungs z) refl
+ordinal-of-day z = by-rungs (ordinalOfDay z) (ordinalOfDayRungs z) (ordinal-of-day-rungs z)
 
 -- ---- TAI and UTC
-pub utc-of-second : (z : ℤ) → Exactly (utcOfSecond builtin z) (utcOfSecondRungs z)
-utc-of-second z = exactly (utcOfSecond builtin z) (utcOfSecondRungs z) (utc-of-second-rungs z) refl
+pub utc-of-second : (t : Table) (z : ℤ) → Exactly (utcOfSecond t z) (utcOfSecondRungs t z)
+utc-of-second t z = by-rungs (utcOfSecond t z) (utcOfSecondRungs t z) (utc-of-second-rungs t z)
 
-pub second-of-utc : (d : ℤ) (x : ℕ) → Exactly (secondOfUtc builtin d x) (secondOfUtcRungs d x)
-second-of-utc d x = exactly (secondOfUtc builtin d x) (secondOfUtcRungs d x) (second-of-utc-rungs d x) refl
+pub second-of-utc : (t : Table) (d : ℤ) (x : ℕ) → Exactly (secondOfUtc t d x) (secondOfUtcRungs t d x)
+second-of-utc t d x = by-rungs (secondOfUtc t d x) (secondOfUtcRungs t d x) (second-of-utc-rungs t d x)
 
 -- ---- codes
-pub read-binary : (s : List ℕ) (p : Preamble) (e : ℤ) → Exactly (scanOf s p e) (readBinaryRungs s p e)
-read-binary s p e = exactly (scanOf s p e) (readBinaryRungs s p e) (read-binary-rungs s p e) refl
+pub read-binary : (t : Table) (s : List ℕ) (p : Preamble) (e : ℤ) → Exactly (scanOf t s p e) (readBinaryRungs t s p e)
+read-binary t s p e = by-rungs (scanOf t s p e) (readBinaryRungs t s p e) (read-binary-rungs t s p e)
 
-pub write-binary : (r : Time) (o : ℕ) (e : ℤ) (front : Bool) (out : List ℕ) → Exactly (writeOf r o e front out) (writeBinaryRungs r o e front out)
-write-binary r o e front out = exactly (writeOf r o e front out) (writeBinaryRungs r o e front out) (write-binary-rungs r o e front out) refl
+pub write-binary : (t : Table) → reckons t ≡ true → (r : Time) (o : ℕ) (e : ℤ) (front : Bool) (out : List ℕ) → Exactly (writeOf t r o e front out) (writeBinaryRungs t r o e front out)
+write-binary t g r o e front out = by-rungs (writeOf t r o e front out) (writeBinaryRungs t r o e front out) (write-binary-rungs t g r o e front out)
 
-pub read-ascii : (s : List ℕ) → Exactly (text s) (readAsciiRungs s)
-read-ascii s = exactly (text s) (readAsciiRungs s) (read-ascii-rungs s) refl
+pub read-ascii : (t : Table) (s : List ℕ) → Exactly (textOf t s) (readAsciiRungs t s)
+read-ascii t s = by-rungs (textOf t s) (readAsciiRungs t s) (read-ascii-rungs t s)
 
-pub write-ascii : (l : Layout) (r : Time) (out : List ℕ) → Exactly (asciiOf l r out) (writeAsciiRungs l r out)
-write-ascii l r out = exactly (asciiOf l r out) (writeAsciiRungs l r out) (write-ascii-rungs l r out) refl
+pub write-ascii : (t : Table) → reckons t ≡ true → (l : Layout) (r : Time) (out : List ℕ) → Exactly (asciiOf t l r out) (writeAsciiRungs t l r out)
+write-ascii t g l r out = by-rungs (asciiOf t l r out) (writeAsciiRungs t l r out) (write-ascii-rungs t g l r out)
 
-pub write-wall : (r : Time) (out : List ℕ) → Exactly (wallOf r out) (writeWallRungs r out)
-write-wall r out = exactly (wallOf r out) (writeWallRungs r out) (write-wall-rungs r out) refl
+pub write-wall : (t : Table) → reckons t ≡ true → (r : Time) (out : List ℕ) → Exactly (wallOf t r out) (writeWallRungs t r out)
+write-wall t g r out = by-rungs (wallOf t r out) (writeWallRungs t r out) (write-wall-rungs t g r out)
 
 -- ---- listings
 pub list-cuc : (s : List ℕ) (p : Preamble) (e : ℤ) (from to : Time) → Exactly (listCuc s p e from to) (listCucRungs s p e from to)
-list-cuc s p e from to = exactly (listCuc s p e from to) (listCucRungs s p e from to) (list-cuc-rungs s p e from to) refl
+list-cuc s p e from to = by-rungs (listCuc s p e from to) (listCucRungs s p e from to) (list-cuc-rungs s p e from to)
 
-pub list-ascii : (s : List ℕ) (from to : Time) → Exactly (listAscii s from to) (listAsciiRungs s from to)
-list-ascii s from to = exactly (listAscii s from to) (listAsciiRungs s from to) (list-ascii-rungs s from to) refl
+pub list-ascii : (t : Table) (s : List ℕ) (from to : Time) → Exactly (listAscii t s from to) (listAsciiRungs t s from to)
+list-ascii t s from to = by-rungs (listAscii t s from to) (listAsciiRungs t s from to) (list-ascii-rungs t s from to)
+
+-- ---- all calls at once
+module _ (t : Table) (g : reckons t ≡ true) where
+  -- each is refused exactly by its rungs ..
+  pub calls-exactly : (c : P.Call) → Exactly (P.outcomeOf t c) (rungsOf t c)
+  calls-exactly (P.difference a b) = difference a b
+  calls-exactly (P.shift r s) = shift r s
+  calls-exactly (P.dayOfDate y m d) = day-of-date y m d
+  calls-exactly (P.dateOfDay z) = date-of-day z
+  calls-exactly (P.dayOfOrdinal y d) = day-of-ordinal y d
+  calls-exactly (P.ordinalOfDay z) = ordinal-of-day z
+  calls-exactly (P.utcOfSecond z) = utc-of-second t z
+  calls-exactly (P.secondOfUtc d x) = second-of-utc t d x
+  calls-exactly (P.readBinary s front p e) = read-binary t s (from front p) e
+  calls-exactly (P.writeBinary r front p e out) = write-binary t g r p e front out
+  calls-exactly (P.readAscii s) = read-ascii t s
+  calls-exactly (P.writeAscii r l out) = write-ascii t g l r out
+  calls-exactly (P.writeWall r out) = write-wall t g r out
+  calls-exactly (P.listCuc s front p e since before) = list-cuc s (from front p) e since before
+  calls-exactly (P.listAscii s since before) = list-ascii t s since before
+
+-- .. whose numbers are among the nine
+pub calls-numbered : (t : Table) (c : P.Call) → numbered (rungsOf t c) ≡ true
+calls-numbered t (P.difference a b) = refl
+calls-numbered t (P.shift r s) = refl
+calls-numbered t (P.dayOfDate y m d) = refl
+calls-numbered t (P.dateOfDay z) = refl
+calls-numbered t (P.dayOfOrdinal y d) = refl
+calls-numbered t (P.ordinalOfDay z) = refl
+calls-numbered t (P.utcOfSecond z) = refl
+calls-numbered t (P.secondOfUtc d x) = refl
+calls-numbered t (P.readBinary s front p e) = refl
+calls-numbered t (P.writeBinary r front p e out) = refl
+calls-numbered t (P.readAscii s) = refl
+calls-numbered t (P.writeAscii r l out) = refl
+calls-numbered t (P.writeWall r out) = refl
+calls-numbered t (P.listCuc s front p e since before) = refl
+calls-numbered t (P.listAscii s since before) = refl

@@ -1,4 +1,4 @@
--- The T-field of each code is refused by its rungs.
+-- The T-field of each code is refused by its rungs, by any table.
 use mathlib.Core.Path.{_≡_, refl, sym, ap, _∙_}
 use mathlib.Core.Bool.{Bool, true, false, cond, _&&_}
 use mathlib.Core.List.{List, [], _∷_}
@@ -9,20 +9,20 @@ use lib.IntN.{ℤ, pos, _+ℤ_}
 use lib.ListN.{length, getD, drop}
 use lib.Seq.{getD-drop, drop-drop}
 use borrow.Author.Tests.{leb-true, le-leb, ltb-true, lt-ltb, eqb-true}
-use Rattle.base.specs.Outcome.{Outcome, done, need, andThen, given, status}
-use Rattle.base.proofs.Bools.{and-true, cond-yes}
+use Rattle.base.specs.Outcome.{Outcome, done, need, andThen, given}
+use Rattle.base.proofs.Bools.{and-true}
 use Rattle.base.proofs.Ladders.{need-yes, needs-yes}
-use Rattle.scale.specs.Time.{Time}
 use Rattle.octets.specs.Places.{number, allGood, be, octetValue, octetGood, bcdValue, bcdGood}
 use Rattle.octets.specs.Counts.{countOf, countAt}
 use Rattle.octets.specs.Writes.{saysCounted}
 use Rattle.octets.proofs.Places.{good-split, all-good}
 use Rattle.octets.specs.declared.Counted.the-variants.{Done, Bad, Out}
-use Rattle.calendar.specs.Gregorian.{indexOfDate, indexOfOrdinal}
+use Rattle.calendar.specs.Gregorian.{indexOfDate, indexOfOrdinal, dayOfDate, dayOfOrdinal, fromEpoch}
 use Rattle.clock.specs.Clock.{clockOf}
 use Rattle.clock.proofs.Laws.{shows}
-use Rattle.leap.specs.Builtin.{builtin}
-use Rattle.leap.specs.Utc.{secondOf, secondOfUtc}
+use Rattle.leap.specs.Table.{Table}
+use Rattle.moment.specs.Moment.{moment}
+use Rattle.moment.specs.declared.Moment.{Moment}
 use Rattle.cuc.specs.Cuc as U
 use Rattle.cuc.specs.declared.Layout.{Layout as CucLayout}
 use Rattle.cuc.proofs.Fields.{field-by}
@@ -37,10 +37,10 @@ use Rattle.codes.specs.Reading.{fieldOf}
 use Rattle.codes.specs.declared.pfield.Layout.{Layout}
 use Rattle.codes.specs.declared.pfield.Layout.the-variants.{Cuc, Cds, Ccs}
 use Rattle.codes.proofs.Layouts.{isLayoutOf}
-use Rattle.promises.specs.RungsBinary.{countIn, pairsIn, milliIn, partIn, partGood, dateGood, indexIn, clockGood, secondIn, fieldGood, fieldRungs}
-use Rattle.promises.specs.Rungs.{rung, firstBroken}
-use Rattle.promises.proofs.Rungs.{climb, step, need-both, then-need, both-ways, status-given, given-climb}
-use Rattle.promises.proofs.RungsCalendar.{second-of-utc-rungs, index-second}
+use Rattle.promises.specs.RungsBinary.{countIn, pairsIn, milliIn, partIn, partGood, dateGood, indexIn, clockGood, secondIn, octetsOf, fieldGood, fieldRungs}
+use Rattle.promises.specs.Rungs.{Rung, rung, allHold}
+use Rattle.promises.proofs.Rungs.{verdict, judged, climb, step, need-both, then-need, rung-so, both-ways, given-need, given-climb}
+use Rattle.promises.proofs.RungsCalendar.{read-rungs}
 
 -- ---- runs of elements
 -- two neighbouring runs are one
@@ -84,11 +84,15 @@ cuc-climbs s at l h =
     ∙ ap (given (U.timeOf l)) (run-climbs 256 octetValue octetGood 8 s at w (le-leb w 8 (omega (arith, g .narrow, g .short))))
     ∙ given-climb (U.timeOf l) (rung 1 (leb (at + w) (length s)) ∷ rung 4 (allGood octetGood (drop at s) w) ∷ []) (countIn s at w)
 
-cuc-rungs : (s : List ℕ) (at : ℕ) (l : CucLayout) → U.isLayout l ≡ true → status (U.field s at l) ≡ firstBroken (fieldRungs s at (Cuc l))
-cuc-rungs s at l h =
+cuc-rungs : (t : Table) (s : List ℕ) (at : ℕ) (l : CucLayout) → U.isLayout l ≡ true → verdict (U.field s at l) ≡ judged (fieldRungs t s at (Cuc l))
+cuc-rungs t s at l h =
     let w = l .coarse + l .fine in
-    ap status (cuc-climbs s at l h)
-    ∙ step (leb (at + w) (length s)) 1 _ _ (λ t. step (allGood octetGood (drop at s) w) 4 _ _ (λ g. refl))
+    ap verdict (cuc-climbs s at l h)
+    ∙ step (leb (at + w) (length s)) 1 _ _ (λ k. step (allGood octetGood (drop at s) w) 4 _ _ (λ g. refl))
+
+-- a T-field that is all there, and whose fields keep their rules
+abbrev fieldUpTo4 : List ℕ → ℕ → Layout → List Rung
+fieldUpTo4 s at l = rung 1 (leb (at + octetsOf l) (length s)) ∷ rung 4 (fieldGood s at l) ∷ []
 
 -- ---- CDS
 lt-le : (p n : ℕ) → ltb p (suc n) ≡ leb p n
@@ -118,80 +122,76 @@ module _ (s : List ℕ) (at : ℕ) (l : CdsLayout) (h : D.isLayout l ≡ true) w
       ∙ ap (λ (n : ℕ). allGood octetGood (drop at s) (l .day + 4) && allGood octetGood (drop n s) (l .part)) e
       ∙ ap (λ (t : Bool). t && allGood octetGood (drop (at + l .day + 4) s) (l .part)) (good-from octetGood s at (l .day) 4))
 
-  moment-at : ℤ → Time
-  moment-at z = record { sec = z; ticks = D.fraction (l .part) (milliIn s at l) (partIn s at l) }
+  -- the moment that the fields name
+  abbrev cdsNamed : Moment
+  cdsNamed = moment (l .epoch +ℤ pos (countIn s at (l .day))) (milliIn s at l / 1000) (D.fraction (l .part) (milliIn s at l) (partIn s at l))
 
-  cds-moment : leb (at + (l .day + 4 + l .part)) (length s) ≡ true
-      → andThen (saysCounted (countAt s at (l .day))) (λ d. andThen (saysCounted (countAt s (at + l .day) 4)) (λ m. andThen (saysCounted (countAt s (at + l .day + 4) (l .part))) (λ p. D.timed builtin l d m p)))
-      ≡ need (fieldGood s at (Cds l)) 4 (given moment-at (secondOfUtc builtin (l .epoch +ℤ pos (countIn s at (l .day))) (milliIn s at l / 1000)))
-  unfolding D.timed moment-at
+  abbrev cdsCounts : Outcome Moment
+  cdsCounts = andThen (saysCounted (countAt s at (l .day))) (λ d. andThen (saysCounted (countAt s (at + l .day) 4)) (λ m. andThen (saysCounted (countAt s (at + l .day + 4) (l .part))) (λ p. D.timed l d m p)))
+
+  cds-moment : leb (at + (l .day + 4 + l .part)) (length s) ≡ true → cdsCounts ≡ need (fieldGood s at (Cds l)) 4 (done cdsNamed)
+  unfolding D.timed
   cds-moment t =
       let g = DL.layout-good l h in
       let k : at + (l .day + 4 + l .part) ≤ length s = leb-true _ _ t in
       let g1 = allGood octetGood (drop at s) (l .day) in
       let g2 = allGood octetGood (drop (at + l .day) s) 4 in
       let g3 = allGood octetGood (drop (at + l .day + 4) s) (l .part) in
-      let x = given moment-at (secondOfUtc builtin (l .epoch +ℤ pos (countIn s at (l .day))) (milliIn s at l / 1000)) in
       run-then 256 octetValue octetGood 8 s at (l .day) (le-leb (l .day) 8 (omega (arith, g .day)))
-      (λ d. andThen (saysCounted (countAt s (at + l .day) 4)) (λ m. andThen (saysCounted (countAt s (at + l .day + 4) (l .part))) (λ p. D.timed builtin l d m p)))
+      (λ d. andThen (saysCounted (countAt s (at + l .day) 4)) (λ m. andThen (saysCounted (countAt s (at + l .day + 4) (l .part))) (λ p. D.timed l d m p)))
       (le-leb (at + l .day) (length s) (omega arith))
       ∙ ap (need g1 4) (run-then 256 octetValue octetGood 8 s (at + l .day) 4 refl
-      (λ m. andThen (saysCounted (countAt s (at + l .day + 4) (l .part))) (λ p. D.timed builtin l (countIn s at (l .day)) m p))
+      (λ m. andThen (saysCounted (countAt s (at + l .day + 4) (l .part))) (λ p. D.timed l (countIn s at (l .day)) m p))
       (le-leb (at + l .day + 4) (length s) (omega arith)))
-      ∙ ap (λ (y : Outcome Time). need g1 4 (need g2 4 y)) (run-then 256 octetValue octetGood 8 s (at + l .day + 4) (l .part) (le-leb (l .part) 8 (omega (arith, g .part)))
-      (λ p. D.timed builtin l (countIn s at (l .day)) (milliIn s at l) p)
+      ∙ ap (λ (y : Outcome Moment). need g1 4 (need g2 4 y)) (run-then 256 octetValue octetGood 8 s (at + l .day + 4) (l .part) (le-leb (l .part) 8 (omega (arith, g .part)))
+      (λ p. D.timed l (countIn s at (l .day)) (milliIn s at l) p)
       (le-leb (at + l .day + 4 + l .part) (length s) (omega arith)))
-      ∙ needs-five g1 g2 g3 (leb (milliIn s at l) 86400999) (ltb (partIn s at l) (D.parts (l .part))) 4 x
-      ∙ ap (λ (b : Bool). need (b && (leb (milliIn s at l) 86400999 && ltb (partIn s at l) (D.parts (l .part)))) 4 x) octets-good
-      ∙ ap (λ (b : Bool). need (allGood octetGood (drop at s) (l .day + 4 + l .part) && (leb (milliIn s at l) 86400999 && b)) 4 x) (part-is (l .part) (drop (at + l .day + 4) s))
+      ∙ needs-five g1 g2 g3 (leb (milliIn s at l) 86400999) (ltb (partIn s at l) (D.parts (l .part))) 4 (done cdsNamed)
+      ∙ ap (λ (b : Bool). need (b && (leb (milliIn s at l) 86400999 && ltb (partIn s at l) (D.parts (l .part)))) 4 (done cdsNamed)) octets-good
+      ∙ ap (λ (b : Bool). need (allGood octetGood (drop at s) (l .day + 4 + l .part) && (leb (milliIn s at l) 86400999 && b)) 4 (done cdsNamed)) (part-is (l .part) (drop (at + l .day + 4) s))
 
-  cds-rungs : status (D.field s at l) ≡ firstBroken (fieldRungs s at (Cds l))
-  unfolding D.fieldBy D.isLayout
-  cds-rungs =
-      let z = l .epoch +ℤ pos (countIn s at (l .day)) in
-      let m = milliIn s at l in
-      ap status (needs-yes (D.isWidth l) _ 3 7 _ h)
-      ∙ ap (λ (w : ℕ). status (need (leb (at + w) (length s)) 1 rest)) (DL.width-is l h)
-      ∙ step (leb (at + (l .day + 4 + l .part)) (length s)) 1 _ _ (λ t.
-      ap status (cds-moment t)
-      ∙ step (fieldGood s at (Cds l)) 4 _ _ (λ g.
-      status-given moment-at (secondOfUtc builtin z (m / 1000))
-      ∙ second-of-utc-rungs z (m / 1000)
-      ∙ cond-yes _ 4 (le-leb (m / 1000) 86400 (omega (arith, low g)))))
-    where
-      rest : Outcome Time
-      rest = andThen (saysCounted (countAt s at (l .day))) (λ d. andThen (saysCounted (countAt s (at + l .day) 4)) (λ m. andThen (saysCounted (countAt s (at + l .day + 4) (l .part))) (λ p. D.timed builtin l d m p)))
+  cds-climbs : D.field s at l ≡ climb (fieldUpTo4 s at (Cds l)) cdsNamed
+  unfolding D.field D.isLayout
+  cds-climbs =
+      needs-yes (D.isWidth l) _ 3 7 _ h
+      ∙ ap (λ (w : ℕ). need (leb (at + w) (length s)) 1 cdsCounts) (DL.width-is l h)
+      ∙ rung-so (leb (at + (l .day + 4 + l .part)) (length s)) 1 cds-moment
 
-      low : fieldGood s at (Cds l) ≡ true → milliIn s at l ≤ 86400999
-      low g =
-          let (a, b) = and-true (allGood octetGood (drop at s) (l .day + 4 + l .part)) _ g in
-          leb-true _ _ (and-true (leb (milliIn s at l) 86400999) _ b .0)
+  cds-low : allHold (fieldUpTo4 s at (Cds l)) ≡ true → leb (milliIn s at l / 1000) 86400 ≡ true
+  cds-low a =
+      let (_, b) = and-true (leb (at + (l .day + 4 + l .part)) (length s)) _ a in
+      let (c, _) = and-true (fieldGood s at (Cds l)) true b in
+      let (_, d) = and-true (allGood octetGood (drop at s) (l .day + 4 + l .part)) _ c in
+      let m : milliIn s at l ≤ 86400999 = leb-true _ _ (and-true (leb (milliIn s at l) 86400999) _ d .0) in
+      le-leb (milliIn s at l / 1000) 86400 (omega arith)
 
 -- ---- CCS
 pairs-then : {B : Type 0} (s : List ℕ) (at w : ℕ) → leb w 9 ≡ true → (k : ℕ → Outcome B) → at + w ≤ length s → andThen (C.pairs s at w) k ≡ need (allGood bcdGood (drop at s) w) 4 (k (pairsIn s at w))
 pairs-then s at w n k t = run-then 100 bcdValue bcdGood 9 s at w n k (le-leb (at + w) (length s) t)
 
-date-climbs : (o : Bool) (s : List ℕ) (at : ℕ) → at + 4 ≤ length s → C.dayAt o s at ≡ need (allGood bcdGood (drop at s) 4 && dateGood o s at) 4 (done (indexIn o s at))
+date-climbs : (o : Bool) (s : List ℕ) (at : ℕ) → at + 4 ≤ length s → C.dayAt o s at ≡ need (allGood bcdGood (drop at s) 4 && dateGood o s at) 4 (done (fromEpoch (indexIn o s at)))
 unfolding C.dayAt indexOfOrdinal indexOfDate
 date-climbs true s at t =
     let a = allGood bcdGood (drop at s) 2 in
     let b = allGood bcdGood (drop (at + 2) s) 2 in
-    let x = done (indexIn true s at) in
-    pairs-then s at 2 refl (λ y. andThen (C.pairs s (at + 2) 2) (λ d. indexOfOrdinal y d)) (omega arith)
-    ∙ ap (need a 4) (pairs-then s (at + 2) 2 refl (λ d. indexOfOrdinal (pairsIn s at 2) d) (omega arith))
+    let x = done (fromEpoch (indexIn true s at)) in
+    pairs-then s at 2 refl (λ y. andThen (C.pairs s (at + 2) 2) (λ d. dayOfOrdinal y d)) (omega arith)
+    ∙ ap (need a 4) (pairs-then s (at + 2) 2 refl (λ d. dayOfOrdinal (pairsIn s at 2) d) (omega arith))
     ∙ need-both a b 4 _
+    ∙ ap (need (a && b) 4) (given-need fromEpoch (dateGood true s at) 4 (done (indexIn true s at)))
     ∙ need-both (a && b) (dateGood true s at) 4 x
     ∙ ap (λ (g : Bool). need (g && dateGood true s at) 4 x) (sym (good-from bcdGood s at 2 2))
 date-climbs false s at t =
     let a = allGood bcdGood (drop at s) 2 in
     let b = allGood bcdGood (drop (at + 2) s) 1 in
     let c = allGood bcdGood (drop (at + 3) s) 1 in
-    let x = done (indexIn false s at) in
-    pairs-then s at 2 refl (λ y. andThen (C.pairs s (at + 2) 1) (λ m. andThen (C.pairs s (at + 3) 1) (λ d. indexOfDate y m d))) (omega arith)
-    ∙ ap (need a 4) (pairs-then s (at + 2) 1 refl (λ m. andThen (C.pairs s (at + 3) 1) (λ d. indexOfDate (pairsIn s at 2) m d)) (omega arith))
+    let x = done (fromEpoch (indexIn false s at)) in
+    pairs-then s at 2 refl (λ y. andThen (C.pairs s (at + 2) 1) (λ m. andThen (C.pairs s (at + 3) 1) (λ d. dayOfDate y m d))) (omega arith)
+    ∙ ap (need a 4) (pairs-then s (at + 2) 1 refl (λ m. andThen (C.pairs s (at + 3) 1) (λ d. dayOfDate (pairsIn s at 2) m d)) (omega arith))
     ∙ need-both a b 4 _
-    ∙ ap (need (a && b) 4) (pairs-then s (at + 3) 1 refl (λ d. indexOfDate (pairsIn s at 2) (pairsIn s (at + 2) 1) d) (omega arith))
+    ∙ ap (need (a && b) 4) (pairs-then s (at + 3) 1 refl (λ d. dayOfDate (pairsIn s at 2) (pairsIn s (at + 2) 1) d) (omega arith))
     ∙ need-both (a && b) c 4 _
+    ∙ ap (need (a && b && c) 4) (given-need fromEpoch (dateGood false s at) 4 (done (indexIn false s at)))
     ∙ need-both (a && b && c) (dateGood false s at) 4 x
     ∙ ap (λ (g : Bool). need (g && c && dateGood false s at) 4 x) (sym (good-from bcdGood s at 2 1))
     ∙ ap (λ (g : Bool). need (g && dateGood false s at) 4 x) (sym (good-from bcdGood s at 3 1))
@@ -230,54 +230,52 @@ module _ (s : List ℕ) (at : ℕ) (l : CcsLayout) (h : C.isLayout l ≡ true) w
       sym (good-from bcdGood s at 7 (l .segments)
       ∙ ap (λ (t : Bool). t && allGood bcdGood (drop (at + 7) s) (l .segments)) (good-from bcdGood s at 4 3))
 
-  part-at : ℕ
-  part-at = pairsIn s (at + 7) (l .segments)
+  abbrev ccsNamed : Moment
+  ccsNamed = moment (fromEpoch (indexIn (l .ordinal) s at)) (secondIn s (at + 4)) (C.ticksOf (l .segments) (pairsIn s (at + 7) (l .segments)))
 
-  ccs-moment : leb (at + (7 + l .segments)) (length s) ≡ true
-      → andThen (C.dayAt (l .ordinal) s at) (λ d. andThen (C.clockAt s (at + 4)) (λ x. andThen (C.pairs s (at + 7) (l .segments)) (λ f. C.timeOf builtin (l .segments) d x f)))
-      ≡ need (fieldGood s at (Ccs l)) 4 (C.timeOf builtin (l .segments) (indexIn (l .ordinal) s at) (secondIn s (at + 4)) part-at)
-  unfolding part-at
+  -- what is read of a day, and of a second of it
+  abbrev ccsOn : ℤ → ℕ → Outcome Moment
+  ccsOn d x = andThen (C.pairs s (at + 7) (l .segments)) (λ f. done (moment d x (C.ticksOf (l .segments) f)))
+
+  abbrev ccsFrom : ℤ → Outcome Moment
+  ccsFrom d = andThen (C.clockAt s (at + 4)) (λ x. ccsOn d x)
+
+  ccs-moment : leb (at + (7 + l .segments)) (length s) ≡ true → andThen (C.dayAt (l .ordinal) s at) ccsFrom ≡ need (fieldGood s at (Ccs l)) 4 (done ccsNamed)
   ccs-moment t =
       let few : l .segments ≤ 6 = leb-true _ _ h in
       let k : at + (7 + l .segments) ≤ length s = leb-true _ _ t in
-      let n = indexIn (l .ordinal) s at in
+      let n = fromEpoch (indexIn (l .ordinal) s at) in
       let z = secondIn s (at + 4) in
       let a = allGood bcdGood (drop at s) 4 in
       let b = allGood bcdGood (drop (at + 4) s) 3 in
       let f = allGood bcdGood (drop (at + 7) s) (l .segments) in
       let d = dateGood (l .ordinal) s at in
       let c = clockGood s (at + 4) in
-      let x = C.timeOf builtin (l .segments) n z part-at in
-      ap (λ (y : Outcome ℕ). andThen y (λ d. andThen (C.clockAt s (at + 4)) (λ x. andThen (C.pairs s (at + 7) (l .segments)) (λ f. C.timeOf builtin (l .segments) d x f)))) (date-climbs (l .ordinal) s at (omega arith))
-      ∙ then-need (a && d) 4 n (λ d. andThen (C.clockAt s (at + 4)) (λ x. andThen (C.pairs s (at + 7) (l .segments)) (λ f. C.timeOf builtin (l .segments) d x f)))
-      ∙ ap (λ (y : Outcome ℕ). need (a && d) 4 (andThen y (λ x. andThen (C.pairs s (at + 7) (l .segments)) (λ f. C.timeOf builtin (l .segments) n x f)))) (clock-climbs s (at + 4) (omega arith))
-      ∙ ap (need (a && d) 4) (then-need (b && c) 4 z (λ x. andThen (C.pairs s (at + 7) (l .segments)) (λ f. C.timeOf builtin (l .segments) n x f)))
-      ∙ ap (λ (y : Outcome Time). need (a && d) 4 (need (b && c) 4 y)) (pairs-then s (at + 7) (l .segments) (le-leb (l .segments) 9 (omega arith)) (λ f. C.timeOf builtin (l .segments) n z f) (omega arith))
-      ∙ sorted a d b c f 4 x
-      ∙ ap (λ (g : Bool). need (g && (d && c)) 4 x) pairs-good
+      ap (λ (y : Outcome ℤ). andThen y ccsFrom) (date-climbs (l .ordinal) s at (omega arith))
+      ∙ then-need (a && d) 4 n ccsFrom
+      ∙ ap (λ (y : Outcome ℕ). need (a && d) 4 (andThen y (ccsOn n))) (clock-climbs s (at + 4) (omega arith))
+      ∙ ap (need (a && d) 4) (then-need (b && c) 4 z (ccsOn n))
+      ∙ ap (λ (y : Outcome Moment). need (a && d) 4 (need (b && c) 4 y)) (pairs-then s (at + 7) (l .segments) (le-leb (l .segments) 9 (omega arith)) (λ f. done (moment n z (C.ticksOf (l .segments) f))) (omega arith))
+      ∙ sorted a d b c f 4 (done ccsNamed)
+      ∙ ap (λ (g : Bool). need (g && (d && c)) 4 (done ccsNamed)) pairs-good
 
-  ccs-rungs : status (C.field s at l) ≡ firstBroken (fieldRungs s at (Ccs l))
-  unfolding C.fieldBy C.timeOf
-  ccs-rungs =
-      ap status (need-yes 3 _ h)
-      ∙ ap (λ (w : ℕ). status (need (leb (at + w) (length s)) 1 rest)) (CR.width-is l (leb-true _ _ h))
-      ∙ step (leb (at + (7 + l .segments)) (length s)) 1 _ _ (λ t.
-      ap status (ccs-moment t)
-      ∙ step (fieldGood s at (Ccs l)) 4 _ _ (λ g.
-      status-given (C.time (l .segments) part-at) (secondOf builtin (indexIn (l .ordinal) s at) (secondIn s (at + 4)))
-      ∙ index-second (indexIn (l .ordinal) s at) (secondIn s (at + 4)) (low g)))
-    where
-      rest : Outcome Time
-      rest = andThen (C.dayAt (l .ordinal) s at) (λ d. andThen (C.clockAt s (at + 4)) (λ x. andThen (C.pairs s (at + 7) (l .segments)) (λ f. C.timeOf builtin (l .segments) d x f)))
+  ccs-climbs : C.field s at l ≡ climb (fieldUpTo4 s at (Ccs l)) ccsNamed
+  unfolding C.field
+  ccs-climbs =
+      need-yes 3 _ h
+      ∙ ap (λ (w : ℕ). need (leb (at + w) (length s)) 1 (andThen (C.dayAt (l .ordinal) s at) ccsFrom)) (CR.width-is l (leb-true _ _ h))
+      ∙ rung-so (leb (at + (7 + l .segments)) (length s)) 1 ccs-moment
 
-      low : fieldGood s at (Ccs l) ≡ true → leb (secondIn s (at + 4)) 86400 ≡ true
-      low g =
-          let (a, b) = and-true (allGood bcdGood (drop at s) (7 + l .segments)) _ g in
-          let (c, d) = and-true (dateGood (l .ordinal) s at) _ b in
-          le-leb (secondIn s (at + 4)) 86400 (shows (pairsIn s (at + 4) 1) (pairsIn s (at + 4 + 1) 1) (pairsIn s (at + 4 + 2) 1) d .low)
+  ccs-low : allHold (fieldUpTo4 s at (Ccs l)) ≡ true → leb (secondIn s (at + 4)) 86400 ≡ true
+  ccs-low a =
+      let (_, b) = and-true (leb (at + (7 + l .segments)) (length s)) _ a in
+      let (c, _) = and-true (fieldGood s at (Ccs l)) true b in
+      let (_, d) = and-true (allGood bcdGood (drop at s) (7 + l .segments)) _ c in
+      let (_, e) = and-true (dateGood (l .ordinal) s at) _ d in
+      le-leb (secondIn s (at + 4)) 86400 (shows (pairsIn s (at + 4) 1) (pairsIn s (at + 4 + 1) 1) (pairsIn s (at + 4 + 2) 1) e .low)
 
 -- ---- whichever the code is
-pub field-rungs : (s : List ℕ) (at : ℕ) (l : Layout) → isLayoutOf l ≡ true → status (fieldOf s at l) ≡ firstBroken (fieldRungs s at l)
-field-rungs s at (Cuc l) h = cuc-rungs s at l h
-field-rungs s at (Cds l) h = cds-rungs s at l h
-field-rungs s at (Ccs l) h = ccs-rungs s at l h
+pub field-rungs : (t : Table) (s : List ℕ) (at : ℕ) (l : Layout) → isLayoutOf l ≡ true → verdict (fieldOf t s at l) ≡ judged (fieldRungs t s at l)
+field-rungs t s at (Cuc l) h = cuc-rungs t s at l h
+field-rungs t s at (Cds l) h = read-rungs t (D.field s at l) (fieldUpTo4 s at (Cds l)) (cdsNamed s at l h) (cds-climbs s at l h) (cds-low s at l h)
+field-rungs t s at (Ccs l) h = read-rungs t (C.field s at l) (fieldUpTo4 s at (Ccs l)) (ccsNamed s at l h) (ccs-climbs s at l h) (ccs-low s at l h)

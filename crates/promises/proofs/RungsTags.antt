@@ -1,20 +1,19 @@
--- Listings are refused by their rungs.
+-- Listings are refused by their rungs, by any table.
 use mathlib.Core.Path.{_≡_, refl, ap, _∙_}
-use mathlib.Core.Bool.{Bool, true, false, cond, _&&_, _||_, false≢true}
+use mathlib.Core.Bool.{Bool, true, false, _&&_, _||_, false≢true}
 use mathlib.Core.List.{List, [], _∷_}
 use Prim.Native.Nat.{ℕ, _+_, _^_}
-use lib.Dec.{leb, ltb, eqb}
+use lib.Dec.{leb, eqb}
 use lib.IntN.{ℤ}
 use lib.ListN.{length, getD, drop}
 use borrow.Author.Tests.{leb-true, eqb-true}
-use Rattle.base.specs.Outcome.{Outcome, done, refused, need, andThen, status}
+use Rattle.base.specs.Outcome.{Outcome, done, refused, need, andThen}
 use Rattle.base.proofs.Bools.{cond-no}
 use Rattle.base.proofs.Ladders.{need-yes}
 use Rattle.scale.specs.Time.{Time, isRecord}
-use Rattle.leap.specs.Table.{start, offset}
-use Rattle.leap.specs.Builtin.{builtin}
+use Rattle.leap.specs.Table.{Table}
 use Rattle.octets.specs.Places.{octetGood, allGood}
-use Rattle.cuc.specs.Cuc.{isEpoch, isLayout, width, field, timeOf}
+use Rattle.cuc.specs.Cuc.{isLayout, width, field, timeOf}
 use Rattle.cuc.specs.declared.Layout.{Layout as CucLayout}
 use Rattle.cuc.proofs.Layouts.{width-is}
 use Rattle.codes.specs.PField.{ident, known, cucLaid, laid}
@@ -27,10 +26,11 @@ use Rattle.tag.specs.Tags.{formed, goodTag, tagOf as wantOf}
 use Rattle.tag.proofs.Witness.{tag-4}
 use Rattle.tags.specs.AsciiTag.{covered, listWanted, listAscii}
 use Rattle.tags.specs.CucTag.{Periodic, isCuc, tagWith, tagIn, tagAt, tagOf, listPeriodic, listCuc}
-use Rattle.promises.specs.Rungs.{rung, firstBroken}
-use Rattle.promises.specs.RungsBinary.{cucOf, octetsOf, countIn}
+use Rattle.promises.specs.Octet.{unextended}
+use Rattle.promises.specs.Rungs.{Rung, rung}
+use Rattle.promises.specs.RungsBinary.{cucEpochGood, cucOf, octetsOf, countIn}
 use Rattle.promises.specs.RungsTags.{inOrder, listCucRungs, isTag, inCover, listAsciiRungs}
-use Rattle.promises.proofs.Rungs.{climb, climbs-up, under, step, rise, after, then-then, one-rung}
+use Rattle.promises.proofs.Rungs.{verdict, judged, climb, climbs-up, under, step, rise, after, need-both, then-then}
 use Rattle.promises.proofs.RungsFields.{cuc-climbs}
 
 -- ---- CUC tags
@@ -46,29 +46,37 @@ told n h = go (eqb n 1) (eqb n 2) refl refl h
     go false true p q h = by 2 (eqb-true n 2 q) (refl, refl, refl)
     go false false p q h = absurd (false≢true h)
 
-cuc-laid : (o : ℕ) (e : ℤ) → isCuc (ident o) ≡ true → laid o e ≡ climb (rung 3 (ltb o 128) ∷ rung 7 (eqb (ident o) 1 || isEpoch e) ∷ []) (Cuc (cucOf o e))
+cuc-laid : (o : ℕ) (e : ℤ) → isCuc (ident o) ≡ true → laid o e ≡ climb (rung 3 (unextended o) ∷ rung 7 (cucEpochGood o e) ∷ []) (Cuc (cucOf o e))
 unfolding laid cucLaid
 cuc-laid o e h =
     let (k, a, b) = told (ident o) h in
-    need-yes 2 _ k ∙ ap (need (ltb o 128) 3) (cond-no _ _ a ∙ cond-no _ _ b)
+    need-yes 2 _ k ∙ ap (need (unextended o) 3) (cond-no _ _ a ∙ cond-no _ _ b)
 
-periodic-rungs : (from to : Time) (g : Periodic) → status (listPeriodic from to g) ≡ firstBroken (rung 7 (isRecord from) ∷ rung 7 (isRecord to) ∷ rung 9 (inOrder from to) ∷ [])
+-- the rungs of the window
+abbrev windowRungs : Time → Time → List Rung
+windowRungs from to = rung 7 (isRecord from) ∷ rung 7 (isRecord to) ∷ rung 9 (inOrder from to) ∷ []
+
+periodic-rungs : (from to : Time) (g : Periodic) → verdict (listPeriodic from to g) ≡ judged (windowRungs from to)
 unfolding listPeriodic
 periodic-rungs from to g = step (isRecord from) 7 _ _ (λ f. step (isRecord to) 7 _ _ (λ t. step (inOrder from to) 9 _ _ (λ o. refl)))
 
-module _ (s : List ℕ) (at : ℕ) {B : Type 0} (k : Periodic → Outcome B) (m : ℕ) (rest : (g : Periodic) → status (k g) ≡ m) where
-  field-then : (l : CucLayout) → isLayout l ≡ true → status (andThen (tagWith s at l) k) ≡ cond (leb (at + (l .coarse + l .fine)) (length s)) (cond (allGood octetGood (drop at s) (l .coarse + l .fine) && leb (length s) (at + (l .coarse + l .fine))) m 4) 1
+module _ (s : List ℕ) (at : ℕ) {B : Type 0} (k : Periodic → Outcome B) (m : Outcome (Unit {0})) (rest : (g : Periodic) → verdict (k g) ≡ m) where
+  -- all octets of the T-field are there, keep their rule, and none is left
+  abbrev fieldRungs : CucLayout → List Rung
+  fieldRungs l = rung 1 (leb (at + octetsOf (Cuc l)) (length s)) ∷ rung 4 (allGood octetGood (drop at s) (octetsOf (Cuc l)) && leb (length s) (at + octetsOf (Cuc l))) ∷ []
+
+  field-then : (l : CucLayout) → isLayout l ≡ true → verdict (andThen (tagWith s at l) k) ≡ under (fieldRungs l) m
   unfolding tagWith
   field-then l h =
-      let w = l .coarse + l .fine in
+      let w = octetsOf (Cuc l) in
       let t = leb (at + w) (length s) in
       let g = allGood octetGood (drop at s) w in
       let x = leb (length s) (at + w) in
-      ap status (then-then (field s at l) ends k)
-      ∙ after (field s at l) (rung 1 t ∷ rung 4 g ∷ []) (timeOf l (countIn s at w)) (λ y. andThen (ends y) k) (cond x m 4) (cuc-climbs s at l h) (λ r.
-      ap (λ (n : ℕ). status (andThen (need (leb (length s) (at + n)) 4 (done (first (timeOf l (countIn s at w))))) k)) (width-is l h)
+      ap verdict (then-then (field s at l) ends k)
+      ∙ after (field s at l) (rung 1 t ∷ rung 4 g ∷ []) (timeOf l (countIn s at w)) (λ y. andThen (ends y) k) (need x 4 m) (cuc-climbs s at l h) (λ r.
+      ap (λ (n : ℕ). verdict (andThen (need (leb (length s) (at + n)) 4 (done (first (timeOf l (countIn s at w))))) k)) (width-is l h)
       ∙ rise x 4 (done (first (timeOf l (countIn s at w)))) k m (λ r. rest _))
-      ∙ ap (λ (n : ℕ). cond t n 1) (one-rung g x 4 m refl)
+      ∙ ap (need t 1) (need-both g x 4 m)
     where
       first : Time → Periodic
       first y = record { first = y; period = 256 ^ l .coarse }
@@ -76,31 +84,26 @@ module _ (s : List ℕ) (at : ℕ) {B : Type 0} (k : Periodic → Outcome B) (m 
       ends : Time → Outcome Periodic
       ends y = need (leb (length s) (at + width l)) 4 (done (first y))
 
-  tag-then : (o : ℕ) (e : ℤ) → status (andThen (tagAt s at o e) k) ≡ under (rung 2 (isCuc (ident o)) ∷ rung 3 (ltb o 128) ∷ rung 7 (eqb (ident o) 1 || isEpoch e) ∷ rung 1 (leb (at + octetsOf (Cuc (cucOf o e))) (length s)) ∷ rung 4 (allGood octetGood (drop at s) (octetsOf (Cuc (cucOf o e))) && leb (length s) (at + octetsOf (Cuc (cucOf o e)))) ∷ []) m
+  tag-then : (o : ℕ) (e : ℤ) → verdict (andThen (tagAt s at o e) k) ≡ under (rung 2 (isCuc (ident o)) ∷ rung 3 (unextended o) ∷ rung 7 (cucEpochGood o e) ∷ fieldRungs (cucOf o e)) m
   unfolding tagAt tagIn
   tag-then o e =
       rise (isCuc (ident o)) 2 (andThen (laid o e) (tagIn s at)) k _ (λ c.
-      let rs = rung 3 (ltb o 128) ∷ rung 7 (eqb (ident o) 1 || isEpoch e) ∷ [] in
-      ap status (then-then (laid o e) (tagIn s at) k)
+      let rs = rung 3 (unextended o) ∷ rung 7 (cucEpochGood o e) ∷ [] in
+      ap verdict (then-then (laid o e) (tagIn s at) k)
       ∙ after (laid o e) rs (Cuc (cucOf o e)) (λ l. andThen (tagIn s at l) k) _ (cuc-laid o e c) (λ h.
       field-then (cucOf o e) (laid-good o e (Cuc (cucOf o e)) (cuc-laid o e c ∙ climbs-up rs (Cuc (cucOf o e)) h))))
 
-pub list-cuc-rungs : (s : List ℕ) (p : Preamble) (e : ℤ) (from to : Time) → status (listCuc s p e from to) ≡ firstBroken (listCucRungs s p e from to)
+pub list-cuc-rungs : (s : List ℕ) (p : Preamble) (e : ℤ) (from to : Time) → verdict (listCuc s p e from to) ≡ judged (listCucRungs s p e from to)
 unfolding listCuc tagOf
 list-cuc-rungs s Front e from to =
     rise (leb 1 (length s)) 1 (tagAt s 1 (getD s 0 0) e) (listPeriodic from to) _ (λ h. tag-then s 1 (listPeriodic from to) _ (periodic-rungs from to) (getD s 0 0) e)
 list-cuc-rungs s (Given o) e from to = tag-then s 0 (listPeriodic from to) _ (periodic-rungs from to) o e
 
 -- ---- ASCII tags
-cover-is : (from to : Time) → covered builtin from to ≡ inCover from to
-unfolding covered start offset builtin
-cover-is from to = refl
-
-wanted-rungs : (from to : Time) (g : Tag) → status (listWanted builtin from to g) ≡ firstBroken (rung 7 (isRecord from) ∷ rung 7 (isRecord to) ∷ rung 9 (inOrder from to) ∷ rung 5 (inCover from to) ∷ [])
-unfolding listWanted
-wanted-rungs from to g =
-    step (isRecord from) 7 _ _ (λ f. step (isRecord to) 7 _ _ (λ t. step (inOrder from to) 9 _ _ (λ o.
-    step (covered builtin from to) 5 _ _ (λ c. refl) ∙ ap (λ (c : Bool). cond c 0 5) (cover-is from to))))
+wanted-rungs : (t : Table) (from to : Time) (g : Tag) → verdict (listWanted t from to g) ≡ under (windowRungs from to) (judged (rung 5 (inCover t from to) ∷ []))
+unfolding listWanted covered
+wanted-rungs t from to g =
+    step (isRecord from) 7 _ _ (λ f. step (isRecord to) 7 _ _ (λ k. step (inOrder from to) 9 _ _ (λ o. step (inCover t from to) 5 _ _ (λ c. refl))))
 
 -- every refusal of a form is 4
 form-4 : (s : List ℕ) → leb 1 (length s) ≡ true → (n : ℕ) → formed s ≡ refused n → n ≡ 4
@@ -109,12 +112,12 @@ form-4 s some n e =
     tag-4 s n (leb-true 1 (length s) some)
     (need-yes 1 _ some ∙ ap (λ (x : Outcome Tag). andThen x (λ t. need (goodTag t) 4 (done t))) e)
 
-tag-rung : {B : Type 0} (x : Outcome Tag) (k : Tag → Outcome B) (m : ℕ) → ((n : ℕ) → x ≡ refused n → n ≡ 4) → ((t : Tag) → status (k t) ≡ m) → status (andThen (andThen x (λ t. need (goodTag t) 4 (done t))) k) ≡ cond (isTag x) m 4
+tag-rung : {B : Type 0} (x : Outcome Tag) (k : Tag → Outcome B) (m : Outcome (Unit {0})) → ((n : ℕ) → x ≡ refused n → n ≡ 4) → ((t : Tag) → verdict (k t) ≡ m) → verdict (andThen (andThen x (λ t. need (goodTag t) 4 (done t))) k) ≡ need (isTag x) 4 m
 tag-rung (done t) k m f g = rise (goodTag t) 4 (done t) k m (λ h. g t)
-tag-rung (refused n) k m f g = f n refl
+tag-rung (refused n) k m f g = ap refused (f n refl)
 
-pub list-ascii-rungs : (s : List ℕ) (from to : Time) → status (listAscii s from to) ≡ firstBroken (listAsciiRungs s from to)
+pub list-ascii-rungs : (t : Table) (s : List ℕ) (from to : Time) → verdict (listAscii t s from to) ≡ judged (listAsciiRungs t s from to)
 unfolding listAscii wantOf
-list-ascii-rungs s from to =
-    rise (leb 1 (length s)) 1 (andThen (formed s) (λ t. need (goodTag t) 4 (done t))) (listWanted builtin from to) _ (λ some.
-    tag-rung (formed s) (listWanted builtin from to) _ (form-4 s some) (wanted-rungs from to))
+list-ascii-rungs t s from to =
+    rise (leb 1 (length s)) 1 (andThen (formed s) (λ g. need (goodTag g) 4 (done g))) (listWanted t from to) _ (λ some.
+    tag-rung (formed s) (listWanted t from to) _ (form-4 s some) (wanted-rungs t from to))

@@ -1,25 +1,25 @@
--- What the codes below promise of a P octet and of an ASCII layout, carried to settings: what a setting can hold, what its written codes read to, and the round trip.
+-- What the codes below promise of a P octet and of an ASCII layout, carried to settings: what a setting can hold, what its written codes read to, and the round trip. By any table that reckons.
 use mathlib.Core.Path.{_≡_, refl, sym, ap, _∙_, subst}
 use mathlib.Core.Bool.{Bool, true, false}
 use mathlib.Core.List.{List, [], _++_, append-nil}
-use Prim.Native.Nat.{ℕ, _+_, _^_, _<_, _≤_}
+use Prim.Native.Nat.{ℕ, _≤_}
 use native.Mathlib.Omega.{arith}
-use lib.Dec.{leb, lit<}
+use lib.Dec.{leb}
 use lib.IntN.{ℤ}
 use lib.ListN.{length, getD, take, drop, take-append-drop}
 use lib.Seq.{length-take-le, take-at}
 use Rattle.base.specs.Outcome.{Outcome, done, refused, andThen, given}
-use Rattle.base.proofs.Ladders.{never, need-done, then-done, done-is}
-use Rattle.scale.specs.Time.{Time, perSecond, isRecord}
-use Rattle.scale.specs.Latest.{Latest}
-use Rattle.scale.proofs.Laws.{good-within}
-use Rattle.scale.proofs.Latest.{own-latest}
-use Rattle.ascii.specs.Ascii as A
+use Rattle.base.proofs.Ladders.{never, need-yes, need-done, then-done, done-is}
+use Rattle.scale.specs.Time.{Time, isRecord}
+use Rattle.scale.proofs.Laws.{record-ticks}
+use Rattle.scale.proofs.Latest.{own-latest, latest-by}
+use Rattle.leap.specs.Table.{Table}
+use Rattle.utc.specs.Reckoning.{reckons}
 use Rattle.ascii.specs.declared.Layout as AL
-use Rattle.ascii.proofs.Promises as AP
 use Rattle.codes.specs.PField.{laid}
 use Rattle.codes.specs.Reading.{Scanned, scanned, widthOf, scanOf, usedOf, Readable}
-use Rattle.codes.specs.Writing.{bytesOf, codeOf, writeOf, from}
+use Rattle.codes.specs.Writing.{bytesOf, codeOf, fronted, writeOf, from}
+use Rattle.codes.specs.Text.{letters, Spelled}
 use Rattle.codes.specs.declared.pfield.Layout.{Layout}
 use Rattle.codes.specs.Setting.{asciiOf, written}
 use Rattle.codes.specs.declared.Preamble.{Preamble}
@@ -27,16 +27,12 @@ use Rattle.codes.specs.declared.Preamble.the-variants.{Front, Given}
 use Rattle.codes.specs.declared.setting.Setting.{Setting}
 use Rattle.codes.specs.declared.setting.Setting.the-variants.{Binary, Ascii}
 use Rattle.codes.proofs.Promises as CP
-use Rattle.codes.proofs.Fields.{field-valid, field-width, read-bytes}
-use Rattle.codes.proofs.Range.{writes-by}
+use Rattle.codes.proofs.Texts as TP
+use Rattle.codes.proofs.Fields.{field-back, field-width}
 use Rattle.octets.specs.Stores.{hasRoom}
 use Rattle.octets.specs.Writes.{roomed}
 use Rattle.octets.proofs.Writes.{room-in}
-use Rattle.promises.specs.Promises.{readBy, codeIn, MayFollow, OfSetting, Holdable, Yields}
-
--- ---- binary codes: what can be held does not hang on where the P octet stands
-ticks-low : (t : Time) → isRecord t ≡ true → t .ticks < perSecond
-ticks-low t v = good-within (2 ^ 41) t (lit< tt) v .below
+use Rattle.promises.specs.Promises.{readUnder, codeIn, MayFollow, OfSetting, Holdable, Yields}
 
 moment-of : (o : Outcome Scanned) (x : Time) → given (λ (y : Scanned). y .moment) o ≡ done x → o ≡ done (scanned (usedOf o) x)
 moment-of (done y) x h = ap (λ (m : Time). done (scanned (y .used) m)) (done-is (y .moment) x h)
@@ -46,137 +42,139 @@ own-octet : (p : ℕ) (e : ℤ) (front : Bool) (t : List ℕ) → OfSetting (Bin
 own-octet p e true t = refl
 own-octet p e false t = tt
 
-module _ (p : ℕ) (e : ℤ) where
-  -- a time that T-fields read to, in writing
-  record Had (x : Time) : Type 0 where
-    layout : Layout
-    lays : laid p e ≡ done layout
-    bytes : List ℕ
-    writes : bytesOf layout x ≡ done bytes
-    valid : isRecord x ≡ true
+-- a T-field that is to be had is written where there is room
+pub writes-by : (t : Table) (r : Time) (p : ℕ) (e : ℤ) (front : Bool) (out : List ℕ) (l : Layout) (c : List ℕ) → isRecord r ≡ true → laid p e ≡ done l → bytesOf t l r ≡ done c → length (codeOf front p c) ≤ length out → writeOf t r p e front out ≡ done (codeOf front p c)
+unfolding writeOf
+writes-by t r p e front out l c v lays w h =
+    need-yes 7 _ v
+    ∙ ap (λ (x : Outcome Layout). andThen x (λ k. andThen (bytesOf t k r) (fronted front p out))) lays
+    ∙ ap (λ (x : Outcome (List ℕ)). andThen x (fronted front p out)) w
+    ∙ room-in (codeOf front p c) 0 out (omega arith)
 
-  had-at : (s : List ℕ) (at : ℕ) (x : Scanned) → CP.Read s at p e x → Had (x .moment)
-  had-at s at x r =
-      record {
-        layout = r .layout;
-        lays = r .lays;
-        bytes = take (widthOf (r .layout)) (drop at s);
-        writes = read-bytes s at (r .layout) (x .moment) (r .reads);
-        valid = field-valid s at (r .layout) (x .moment) (r .reads);
-      }
+module _ (t : Table) (g : reckons t ≡ true) where
+  -- ---- binary codes: what can be held does not hang on where the P octet stands
+  module _ (p : ℕ) (e : ℤ) where
+    -- a time that T-fields read to, in writing
+    record Had (x : Time) : Type 0 where
+      layout : Layout
+      lays : laid p e ≡ done layout
+      bytes : List ℕ
+      writes : bytesOf t layout x ≡ done bytes
+      valid : isRecord x ≡ true
 
-  had : (x : Time) → Readable p e x → Had x
+    had-at : (s : List ℕ) (at : ℕ) (x : Scanned) → CP.Read t s at p e x → Had (x .moment)
+    had-at s at x r =
+        let (v, w) = field-back t g s at (r .layout) (x .moment) (r .reads) in
+        record { layout = r .layout; lays = r .lays; bytes = take (widthOf (r .layout)) (drop at s); writes = w; valid = v }
+
+    had : (x : Time) → Readable t p e x → Had x
+    unfolding scanOf
+    had x (s, (n, h)) = had-at s 0 (scanned n x) (CP.read-at t s 0 p e (scanned n x) h)
+
+    pub readable-holdable : (front : Bool) (x : Time) → Readable t p e x → Holdable t (Binary p e front) x
+    readable-holdable front x r =
+        let a = had x r in
+        let c = codeOf front p (a .bytes) in
+        let w = writes-by t x p e front c (a .layout) (a .bytes) (a .valid) (a .lays) (a .writes) (omega arith) in
+        let (m, (late, reads)) = CP.written-latest t g x p e front c c w in
+        let i : m ≡ x = own-latest (Readable t p e) x m late (record-ticks m (had m (late .had) .valid)) (record-ticks x (a .valid)) r in
+        (c, own-octet p e front (a .bytes), ap (given (λ (y : Scanned). y .moment)) (rw append-nil at (reads [])) ∙ ap done i)
+
+    holdable-front : (x : Time) (s : List ℕ) (n : ℕ) → getD s 0 0 ≡ p → scanOf t s Front e ≡ done (scanned n x) → n ≤ length s → Readable t p e x
+    holdable-front x s n q h k =
+        let w : writeOf t x p e true s ≡ done (take n s) = rw q at (CP.read-written-front t g s e s (scanned n x) h k) in
+        let (m, (late, reads)) = CP.written-latest t g x p e true s (take n s) w in
+        let f : scanOf t s Front e ≡ done (scanned (length (take n s)) m) = rw (take-append-drop n s) at (reads (drop n s)) in
+        let i : m ≡ x = ap (λ (y : Scanned). y .moment) (done-is _ _ (sym f ∙ h)) in
+        subst (Readable t p e) i (late .had)
+
+    -- a code lies within the bytes
+    used-in : (front : Bool) (s : List ℕ) (x : Scanned) → scanOf t s (from front p) e ≡ done x → x .used ≤ length s
+    unfolding scanOf
+    used-in true s x h =
+        let r = CP.read-at t s 1 (getD s 0 0) e x (need-done (leb 1 (length s)) 1 _ x h .1) in
+        omega (arith, r .ends, field-width t s 1 (r .layout) (x .moment) (r .reads))
+    used-in false s x h =
+        let r = CP.read-at t s 0 p e x h in
+        omega (arith, r .ends, field-width t s 0 (r .layout) (x .moment) (r .reads))
+
+    pub holdable-readable : (front : Bool) (x : Time) → Holdable t (Binary p e front) x → Readable t p e x
+    holdable-readable true x (s, q, h) =
+        let f = moment-of (scanOf t s Front e) x h in
+        holdable-front x s (usedOf (scanOf t s Front e)) q f (used-in true s (scanned (usedOf (scanOf t s Front e)) x) f)
+    holdable-readable false x (s, q, h) = (s, (usedOf (scanOf t s (Given p) e), moment-of (scanOf t s (Given p) e) x h))
+
+  scanned-valid : (s : List ℕ) (p : Preamble) (e : ℤ) (m : Time) (n : ℕ) → scanOf t s p e ≡ done (scanned n m) → isRecord m ≡ true
   unfolding scanOf
-  had x (s, (n, h)) = had-at s 0 (scanned n x) (CP.read-at s 0 p e (scanned n x) h)
+  scanned-valid s (Given p) e m n h = had-at p e s 0 (scanned n m) (CP.read-at t s 0 p e (scanned n m) h) .valid
+  scanned-valid s Front e m n h =
+      let p = getD s 0 0 in
+      had-at p e s 1 (scanned n m) (CP.read-at t s 1 p e (scanned n m) (need-done (leb 1 (length s)) 1 _ (scanned n m) h .1)) .valid
 
-  pub readable-holdable : (front : Bool) (x : Time) → Readable p e x → Holdable (Binary p e front) x
-  readable-holdable front x r =
-      let a = had x r in
-      let c = codeOf front p (a .bytes) in
-      let w = writes-by x p e front c (a .layout) (a .bytes) (a .valid) (a .lays) (a .writes) (omega arith) in
-      let (m, (late, reads)) = CP.written-latest x p e front c c w in
-      let i : m ≡ x = own-latest (Readable p e) x m late (ticks-low m (had m (late .had) .valid)) (ticks-low x (a .valid)) r in
-      (c, own-octet p e front (a .bytes), ap (given (λ (y : Scanned). y .moment)) (rw append-nil at (reads [])) ∙ ap done i)
+  -- ---- ASCII
+  spelled-holdable : (l : AL.Layout) (x : Time) → Spelled t l x → Holdable t (Ascii l) x
+  spelled-holdable l x h = (h .code, h .own, h .read)
 
-  holdable-front : (x : Time) (s : List ℕ) (n : ℕ) → getD s 0 0 ≡ p → scanOf s Front e ≡ done (scanned n x) → n ≤ length s → Readable p e x
-  holdable-front x s n q h k =
-      let w : writeOf x p e true s ≡ done (take n s) = rw q at (CP.read-written-front s e s (scanned n x) h k) in
-      let (m, (late, reads)) = CP.written-latest x p e true s (take n s) w in
-      let f : scanOf s Front e ≡ done (scanned (length (take n s)) m) = rw (take-append-drop n s) at (reads (drop n s)) in
-      let i : m ≡ x = ap (λ (y : Scanned). y .moment) (done-is _ _ (sym f ∙ h)) in
-      subst (Readable p e) i (late .had)
+  holdable-spelled : (l : AL.Layout) (x : Time) → Holdable t (Ascii l) x → Spelled t l x
+  holdable-spelled l x (s, o, h) = record { code = s; read = h; own = o }
 
-  -- a code lies within the bytes
-  used-in : (front : Bool) (s : List ℕ) (x : Scanned) → scanOf s (from front p) e ≡ done x → x .used ≤ length s
-  unfolding scanOf
-  used-in true s x h =
-      let r = CP.read-at s 1 (getD s 0 0) e x (need-done (leb 1 (length s)) 1 _ x h .1) in
-      omega (arith, r .ends, field-width s 1 (r .layout) (x .moment) (r .reads))
-  used-in false s x h =
-      let r = CP.read-at s 0 p e x h in
-      omega (arith, r .ends, field-width s 0 (r .layout) (x .moment) (r .reads))
+  -- what an answered write was made of
+  pub ascii-told : (l : AL.Layout) (r : Time) (out code : List ℕ) → asciiOf t l r out ≡ done code → letters t l r ≡ done code
+  unfolding roomed
+  ascii-told l r out code h =
+      let (c, (w, k)) = then-done (letters t l r) (roomed out 0) code h in
+      w ∙ ap done (done-is c code (need-done (hasRoom out 0 c) 8 (done c) code k .1))
 
-  pub holdable-readable : (front : Bool) (x : Time) → Holdable (Binary p e front) x → Readable p e x
-  holdable-readable true x (s, q, h) =
-      let f = moment-of (scanOf s Front e) x h in
-      holdable-front x s (usedOf (scanOf s Front e)) q f (used-in true s (scanned (usedOf (scanOf s Front e)) x) f)
-  holdable-readable false x (s, q, h) = (s, (usedOf (scanOf s (Given p) e), moment-of (scanOf s (Given p) e) x h))
+  -- ---- what is read is a valid record
+  pub valid-read : (setting : Setting) (s : List ℕ) (m : Time) → readUnder t setting s ≡ done m → isRecord m ≡ true
+  valid-read (Binary p e front) s m h = scanned-valid s (from front p) e m (usedOf (scanOf t s (from front p) e)) (moment-of (scanOf t s (from front p) e) m h)
+  valid-read (Ascii l) s m h = TP.read-valid t g s m h
 
-scanned-valid : (s : List ℕ) (p : Preamble) (e : ℤ) (m : Time) (n : ℕ) → scanOf s p e ≡ done (scanned n m) → isRecord m ≡ true
-unfolding scanOf
-scanned-valid s (Given p) e m n h = had-at p e s 0 (scanned n m) (CP.read-at s 0 p e (scanned n m) h) .valid
-scanned-valid s Front e m n h =
-    let p = getD s 0 0 in
-    had-at p e s 1 (scanned n m) (CP.read-at s 1 p e (scanned n m) (need-done (leb 1 (length s)) 1 _ (scanned n m) h .1)) .valid
+  -- ---- what a written code yields
+  pub yields : (setting : Setting) (r : Time) (out code : List ℕ) → written t r setting out ≡ done code → (m : Time) × Yields t setting r code m
+  yields (Binary p e front) r out code h =
+      let w = CP.wrote-of t r p e front out code h in
+      let (m, (late, reads)) = CP.written-latest t g r p e front out code h in (
+        m,
+        record {
+          latest = latest-by (Readable t p e) (Holdable t (Binary p e front)) r m (readable-holdable p e front) (holdable-readable p e front) late;
+          own = subst (OfSetting (Binary p e front)) (w .is) (own-octet p e front (w .bytes));
+          reads = λ rest _. ap (given (λ (y : Scanned). y .moment)) (reads rest);
+          whole = λ rest _. ap (λ (o : Outcome Scanned). take (usedOf o) (code ++ rest)) (reads rest) ∙ take-at code rest (length code) refl;
+        },
+      )
+  yields (Ascii l) r out code h =
+      let b = ascii-told l r out code h in
+      let (m, (late, reads)) = TP.written-reads t g l r code b in (
+        m,
+        record {
+          latest = latest-by (Spelled t l) (Holdable t (Ascii l)) r m (spelled-holdable l) (holdable-spelled l) late;
+          own = TP.written-layout t l r code b;
+          reads = λ rest n. rw (n, append-nil) reads;
+          whole = λ rest n. rw (n, append-nil);
+        },
+      )
 
--- the latest among the one is the latest among the other
-latest-by : (P Q : Time → Type 0) → ((x : Time) → P x → Q x) → ((x : Time) → Q x → P x) → (r m : Time) → Latest P r m → Latest Q r m
-latest-by P Q f g r m l = record { had = f m (l .had); not-after = l .not-after; no-later = λ x h k. l .no-later x (g x h) k }
+  -- read alone
+  nothing-follows : (setting : Setting) → MayFollow setting []
+  nothing-follows (Binary p e front) = tt
+  nothing-follows (Ascii l) = refl
 
--- ---- ASCII
-reads-holdable : (l : AL.Layout) (x : Time) → A.Reads l x → Holdable (Ascii l) x
-reads-holdable l x h = (h .code, h .own, h .read)
+  pub alone : (setting : Setting) (code : List ℕ) (m : Time) → ((rest : List ℕ) → MayFollow setting rest → readUnder t setting (code ++ rest) ≡ done m) → readUnder t setting code ≡ done m
+  alone setting code m f = subst (λ (c : List ℕ). readUnder t setting c ≡ done m) (append-nil code) (f [] (nothing-follows setting))
 
-holdable-reads : (l : AL.Layout) (x : Time) → Holdable (Ascii l) x → A.Reads l x
-holdable-reads l x (s, o, h) = record { code = s; read = h; own = o }
+  -- ---- what was read is written back
+  room-left : (n : ℕ) (s out : List ℕ) → n ≤ length s → length (take n s) ≤ length out → n ≤ length out
+  room-left n s out h k = omega (arith, length-take-le n s h)
 
--- what an answered write was made of
-pub ascii-told : (l : AL.Layout) (r : Time) (out code : List ℕ) → asciiOf l r out ≡ done code → A.bytesOf l r ≡ done code
-unfolding roomed
-ascii-told l r out code h =
-    let (c, (w, k)) = then-done (A.bytesOf l r) (roomed out 0) code h in
-    w ∙ ap done (done-is c code (need-done (hasRoom out 0 c) 8 (done c) code k .1))
+  back-binary : (p : ℕ) (e : ℤ) (front : Bool) (s out : List ℕ) (x : Scanned) → OfSetting (Binary p e front) s → scanOf t s (from front p) e ≡ done x → x .used ≤ length out → writeOf t (x .moment) p e front out ≡ done (take (x .used) s)
+  back-binary p e true s out x q h k = rw q at (CP.read-written-front t g s e out x h k)
+  back-binary p e false s out x q h k = CP.read-written t g s p e out x h k
 
--- ---- what is read is a valid record
-pub valid-read : (setting : Setting) (s : List ℕ) (m : Time) → readBy setting s ≡ done m → isRecord m ≡ true
-valid-read (Binary p e front) s m h = scanned-valid s (from front p) e m (usedOf (scanOf s (from front p) e)) (moment-of (scanOf s (from front p) e) m h)
-valid-read (Ascii l) s m h = AP.read-valid s m h
-
--- ---- what a written code yields
-pub yields : (setting : Setting) (r : Time) (out code : List ℕ) → written r setting out ≡ done code → (m : Time) × Yields setting r code m
-yields (Binary p e front) r out code h =
-    let w = CP.wrote-of r p e front out code h in
-    let (m, (late, reads)) = CP.written-latest r p e front out code h in (
-      m,
-      record {
-        latest = latest-by (Readable p e) (Holdable (Binary p e front)) (readable-holdable p e front) (holdable-readable p e front) r m late;
-        own = subst (OfSetting (Binary p e front)) (w .is) (own-octet p e front (w .bytes));
-        reads = λ rest _. ap (given (λ (y : Scanned). y .moment)) (reads rest);
-        whole = λ rest _. ap (λ (o : Outcome Scanned). take (usedOf o) (code ++ rest)) (reads rest) ∙ take-at code rest (length code) refl;
-      },
-    )
-yields (Ascii l) r out code h =
-    let b = ascii-told l r out code h in
-    let (m, (late, reads)) = AP.written-reads l r code b in (
-      m,
-      record {
-        latest = latest-by (A.Reads l) (Holdable (Ascii l)) (reads-holdable l) (holdable-reads l) r m late;
-        own = AP.written-layout l r code b;
-        reads = λ rest n. rw (n, append-nil) reads;
-        whole = λ rest n. rw (n, append-nil);
-      },
-    )
-
--- read alone
-nothing-follows : (setting : Setting) → MayFollow setting []
-nothing-follows (Binary p e front) = tt
-nothing-follows (Ascii l) = refl
-
-pub alone : (setting : Setting) (code : List ℕ) (m : Time) → ((rest : List ℕ) → MayFollow setting rest → readBy setting (code ++ rest) ≡ done m) → readBy setting code ≡ done m
-alone setting code m f = subst (λ (c : List ℕ). readBy setting c ≡ done m) (append-nil code) (f [] (nothing-follows setting))
-
--- ---- what was read is written back
-room-left : (n : ℕ) (s out : List ℕ) → n ≤ length s → length (take n s) ≤ length out → n ≤ length out
-room-left n s out h k = omega (arith, length-take-le n s h)
-
-back-binary : (p : ℕ) (e : ℤ) (front : Bool) (s out : List ℕ) (x : Scanned) → OfSetting (Binary p e front) s → scanOf s (from front p) e ≡ done x → x .used ≤ length out → writeOf (x .moment) p e front out ≡ done (take (x .used) s)
-back-binary p e true s out x q h k = rw q at (CP.read-written-front s e out x h k)
-back-binary p e false s out x q h k = CP.read-written s p e out x h k
-
-pub back : (setting : Setting) (s out : List ℕ) (m : Time) → OfSetting setting s → readBy setting s ≡ done m → length (codeIn setting s) ≤ length out → written m setting out ≡ done (codeIn setting s)
-back (Binary p e front) s out m q h k =
-    let n = usedOf (scanOf s (from front p) e) in
-    let f = moment-of (scanOf s (from front p) e) m h in
-    back-binary p e front s out (scanned n m) q f (room-left n s out (used-in p e front s (scanned n m) f) k)
-back (Ascii l) s out m q h k =
-    ap (λ (b : Outcome (List ℕ)). andThen b (roomed out 0)) (rw q at (AP.read-written s m h)) ∙ room-in s 0 out (omega arith)
+  pub back : (setting : Setting) (s out : List ℕ) (m : Time) → OfSetting setting s → readUnder t setting s ≡ done m → length (codeIn t setting s) ≤ length out → written t m setting out ≡ done (codeIn t setting s)
+  back (Binary p e front) s out m q h k =
+      let n = usedOf (scanOf t s (from front p) e) in
+      let f = moment-of (scanOf t s (from front p) e) m h in
+      back-binary p e front s out (scanned n m) q f (room-left n s out (used-in p e front s (scanned n m) f) k)
+  back (Ascii l) s out m q h k =
+      ap (λ (b : Outcome (List ℕ)). andThen b (roomed out 0)) (rw q at (TP.read-written t g s m h)) ∙ room-in s 0 out (omega arith)

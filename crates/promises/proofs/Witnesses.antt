@@ -1,11 +1,12 @@
 -- No promise is vacuous: for each code a source, a setting and room that meet the premises and are written, and each kind of refusal; by computation.
 use mathlib.Core.Path.{_≡_, refl}
-use mathlib.Core.Bool.{Bool, true, false}
+use mathlib.Core.Bool.{Bool, true, false, _&&_}
 use mathlib.Core.List.{List, [], _∷_, map}
 use Prim.Native.Nat.{ℕ}
 use lib.Dec.{lit≤}
 use lib.IntN.{ℤ, pos, negsuc}
 use lib.ListN.{replicate}
+use lib.Signed.{leZ, ltZ}
 use Rattle.base.specs.Outcome.{Outcome, done, refused, given, status}
 use Rattle.base.specs.Parts.{within}
 use Rattle.scale.specs.Time.{Time, good}
@@ -16,6 +17,9 @@ use Rattle.leap.specs.Table.{offset, start, dayLength, covers, secondAt, dayHol
 use Rattle.leap.specs.Builtin.{rowOf, builtin}
 use Rattle.leap.specs.declared.Utc.{Utc}
 use Rattle.leap.specs.Utc as L
+use Rattle.moment.specs.Moment.{isMoment}
+use Rattle.utc.specs.Reckoning.{timeOf, momentOf}
+use Rattle.utc.proofs.Builtin.{builtin-reckons}
 use Rattle.cuc.specs.Cuc as U
 use Rattle.cds.specs.Cds as D
 use Rattle.ccs.specs.Ccs as C
@@ -26,6 +30,7 @@ use Rattle.ascii.specs.declared.Layout.{Layout}
 use Rattle.codes.specs.PField.{known, laid, cucLaid, cdsLaid, ccsLaid}
 use Rattle.codes.specs.Reading.{scanIn, scanAt, scanOf}
 use Rattle.codes.specs.Writing.{writeOf}
+use Rattle.codes.specs.Text.{letters as lettersOf}
 use Rattle.codes.specs.Setting.{written}
 use Rattle.codes.specs.declared.setting.Setting.{Setting}
 use Rattle.codes.specs.declared.setting.Setting.the-variants.{Binary, Ascii}
@@ -41,7 +46,8 @@ use Rattle.tags.specs.Records.{startAt, momentsIn}
 use Rattle.tags.specs.CucTag as K
 use Rattle.tags.specs.AsciiTag as AsciiTag
 use Rattle.promises.specs.Promises as P
-use Rattle.promises.specs.Promises.{Call, outcomeOf, readBy, OfSetting, Yields, Ready, Holds, counter, listBy}
+use Rattle.promises.specs.RungsCalendar.{coveredDay, coveredSecond, hasSecond}
+use Rattle.promises.specs.Promises.{Call, outcomeOf, readUnder, OfSetting, Yields, Ready, Holds, counter, listBy}
 use Rattle.promises.proofs.Promises.{written-latest, writes-exactly}
 
 abbrev time : ℤ → ℕ → Time
@@ -60,9 +66,9 @@ room = replicate 40 7
 
 record Witness (setting : Setting) (code : List ℕ) : Type 0 where
   ready : Ready source setting room
-  written-as : written source setting room ≡ done code
+  written-as : written builtin source setting room ≡ done code
   own : OfSetting setting code
-  reads : readBy setting code ≡ done leap
+  reads : readUnder builtin setting code ≡ done leap
 
 abbrev letters : Bool → ℕ → Bool → Setting
 letters b d z = Ascii (record { ordinal = b; digits = d; zone = z })
@@ -77,32 +83,32 @@ unfolding good within known laid cucLaid cdsLaid ccsLaid scanIn scanAt scanOf wr
 cuc-apart = record { ready = record { source = refl; settings = (_, refl); room = lit≤ tt }; written-as = refl; own = tt; reads = refl }
 
 cds : Witness (Binary 0x40 (pos 0) true) (0x40 ∷ 0x54 ∷ 0x2d ∷ 0x05 ∷ 0x26 ∷ 0x5c ∷ 0x00 ∷ [])
-unfolding good within known laid cucLaid cdsLaid ccsLaid scanIn scanAt scanOf writeOf roomed countOf D.isWidth D.width D.timed D.fieldBy D.held D.laid D.bytesOn D.bytesBy L.utcOfSecond L.readingOf L.raisedBy L.secondOfUtc L.secondOf readingAt coversSecond dayHolding secondAt covers dayLength start offset builtin
+unfolding good within known laid cucLaid cdsLaid ccsLaid scanIn scanAt scanOf writeOf roomed countOf D.isWidth D.width D.timed D.field D.held D.laid D.bytesOf timeOf momentOf isMoment L.utcOfSecond L.readingOf L.raisedBy L.secondOfUtc L.secondOf readingAt coversSecond dayHolding secondAt covers dayLength start offset builtin
 cds = record { ready = record { source = refl; settings = (_, refl); room = lit≤ tt }; written-as = refl; own = refl; reads = refl }
 
 cds-apart : Witness (Binary 0x49 (pos 21549) false) (0 ∷ 0 ∷ 0x05 ∷ 0x26 ∷ 0x5c ∷ 0x00 ∷ 0 ∷ 0 ∷ [])
-unfolding good within known laid cucLaid cdsLaid ccsLaid scanIn scanAt scanOf writeOf roomed countOf D.isWidth D.width D.timed D.fieldBy D.held D.laid D.bytesOn D.bytesBy L.utcOfSecond L.readingOf L.raisedBy L.secondOfUtc L.secondOf readingAt coversSecond dayHolding secondAt covers dayLength start offset builtin
+unfolding good within known laid cucLaid cdsLaid ccsLaid scanIn scanAt scanOf writeOf roomed countOf D.isWidth D.width D.timed D.field D.held D.laid D.bytesOf timeOf momentOf isMoment L.utcOfSecond L.readingOf L.raisedBy L.secondOfUtc L.secondOf readingAt coversSecond dayHolding secondAt covers dayLength start offset builtin
 cds-apart = record { ready = record { source = refl; settings = (_, refl); room = lit≤ tt }; written-as = refl; own = tt; reads = refl }
 
 ccs : Witness (Binary 0x58 (pos 0) true) (0x58 ∷ 0x20 ∷ 0x16 ∷ 0x03 ∷ 0x66 ∷ 0x23 ∷ 0x59 ∷ 0x60 ∷ [])
-unfolding good within known laid cucLaid cdsLaid ccsLaid scanIn scanAt scanOf writeOf roomed countOf C.width C.dayAt C.clockAt C.timeOf C.fieldBy C.dateText C.clockText C.bytesBy L.utcOfSecond L.readingOf L.raisedBy L.secondOfUtc L.secondOf readingAt coversSecond dayHolding secondAt covers dayLength start offset builtin kind yearStart yearsTo row monthLength isDate isOrdinal dayIndex ordinalOn dateIn indexOfDate indexOfOrdinal ordinalAt
+unfolding good within known laid cucLaid cdsLaid ccsLaid scanIn scanAt scanOf writeOf roomed countOf C.width C.dayAt C.clockAt C.field C.dateText C.clockText C.bytesOf timeOf momentOf isMoment L.utcOfSecond L.readingOf L.raisedBy L.secondOfUtc L.secondOf readingAt coversSecond dayHolding secondAt covers dayLength start offset builtin kind yearStart yearsTo row monthLength isDate isOrdinal dayIndex ordinalOn dateIn indexOfDate indexOfOrdinal indexOfDay ordinalAt
 ccs = record { ready = record { source = refl; settings = (_, refl); room = lit≤ tt }; written-as = refl; own = refl; reads = refl }
 
 ccs-apart : Witness (Binary 0x51 (pos 0) false) (0x20 ∷ 0x16 ∷ 0x12 ∷ 0x31 ∷ 0x23 ∷ 0x59 ∷ 0x60 ∷ 0 ∷ [])
-unfolding good within known laid cucLaid cdsLaid ccsLaid scanIn scanAt scanOf writeOf roomed countOf C.width C.dayAt C.clockAt C.timeOf C.fieldBy C.dateText C.clockText C.bytesBy L.utcOfSecond L.readingOf L.raisedBy L.secondOfUtc L.secondOf readingAt coversSecond dayHolding secondAt covers dayLength start offset builtin kind yearStart yearsTo row monthLength isDate isOrdinal dayIndex ordinalOn dateIn indexOfDate indexOfOrdinal ordinalAt
+unfolding good within known laid cucLaid cdsLaid ccsLaid scanIn scanAt scanOf writeOf roomed countOf C.width C.dayAt C.clockAt C.field C.dateText C.clockText C.bytesOf timeOf momentOf isMoment L.utcOfSecond L.readingOf L.raisedBy L.secondOfUtc L.secondOf readingAt coversSecond dayHolding secondAt covers dayLength start offset builtin kind yearStart yearsTo row monthLength isDate isOrdinal dayIndex ordinalOn dateIn indexOfDate indexOfOrdinal indexOfDay ordinalAt
 ccs-apart = record { ready = record { source = refl; settings = (_, refl); room = lit≤ tt }; written-as = refl; own = tt; reads = refl }
 
 ascii-a : Witness (letters false 3 true) (bytes "2016-12-31T23:59:60.000Z")
-unfolding good within roomed A.width A.layoutOf A.dayAt A.clockAt A.fieldsOf A.timeOf A.textBy A.dayText A.clockText A.codeText A.bytesBy shaped shapes L.utcOfSecond L.readingOf L.raisedBy L.secondOfUtc L.secondOf readingAt coversSecond dayHolding secondAt covers dayLength start offset builtin kind yearStart yearsTo row monthLength isDate isOrdinal dayIndex ordinalOn dateIn indexOfDate indexOfOrdinal ordinalAt
+unfolding good within roomed A.width A.layoutOf A.dayAt A.clockAt A.fieldsOf A.text A.dayText A.clockText A.codeText A.bytesOf lettersOf shaped shapes timeOf momentOf isMoment L.utcOfSecond L.readingOf L.raisedBy L.secondOfUtc L.secondOf readingAt coversSecond dayHolding secondAt covers dayLength start offset builtin kind yearStart yearsTo row monthLength isDate isOrdinal dayIndex ordinalOn dateIn indexOfDate indexOfOrdinal indexOfDay ordinalAt
 ascii-a = record { ready = record { source = refl; settings = refl; room = lit≤ tt }; written-as = refl; own = refl; reads = refl }
 
 ascii-b : Witness (letters true 0 false) (bytes "2016-366T23:59:60")
-unfolding good within roomed A.width A.layoutOf A.dayAt A.clockAt A.fieldsOf A.timeOf A.textBy A.dayText A.clockText A.codeText A.bytesBy shaped shapes L.utcOfSecond L.readingOf L.raisedBy L.secondOfUtc L.secondOf readingAt coversSecond dayHolding secondAt covers dayLength start offset builtin kind yearStart yearsTo row monthLength isDate isOrdinal dayIndex ordinalOn dateIn indexOfDate indexOfOrdinal ordinalAt
+unfolding good within roomed A.width A.layoutOf A.dayAt A.clockAt A.fieldsOf A.text A.dayText A.clockText A.codeText A.bytesOf lettersOf shaped shapes timeOf momentOf isMoment L.utcOfSecond L.readingOf L.raisedBy L.secondOfUtc L.secondOf readingAt coversSecond dayHolding secondAt covers dayLength start offset builtin kind yearStart yearsTo row monthLength isDate isOrdinal dayIndex ordinalOn dateIn indexOfDate indexOfOrdinal indexOfDay ordinalAt
 ascii-b = record { ready = record { source = refl; settings = refl; room = lit≤ tt }; written-as = refl; own = refl; reads = refl }
 
 -- so the target holds the source, and the code yields the latest time
-yields : (setting : Setting) (code : List ℕ) → Witness setting code → Holds setting source × ((m : Time) × Yields setting source code m)
-yields setting code w = (writes-exactly setting source room (w .ready) .0 (code, w .written-as), written-latest setting source room code (w .written-as))
+yields : (setting : Setting) (code : List ℕ) → Witness setting code → Holds builtin setting source × ((m : Time) × Yields builtin setting source code m)
+yields setting code w = (writes-exactly builtin builtin-reckons setting source room (w .ready) .0 (code, w .written-as), written-latest builtin builtin-reckons setting source room code (w .written-as))
 
 -- ---- one scale: a later row of the table, and the two seconds
 later-row : Among (rowOf (5295 ∷ 11 ∷ [])) (builtin .later)
@@ -116,16 +122,21 @@ two-seconds : (L.utcOfSecond builtin (pos 1861920036) ≡ utc (pos 21549) 86400 
 unfolding L.utcOfSecond L.readingOf L.raisedBy readingAt coversSecond dayHolding start offset builtin
 two-seconds = (refl, refl)
 
+-- ---- the built-in cover: "days 5113 (1972-01-01) to 24836 (2025-12-31)", "Covered TAI seconds are 441,763,210 to 2,145,916,836"; 2016-12-31 has 23:59:60, and 2017-01-01 has it not
+cover : (z : ℤ) → (coveredDay builtin z ≡ within (pos 5113) (pos 24836) z) × (coveredSecond builtin z ≡ leZ (pos 441763210) z && ltZ z (pos 2145916837)) × (hasSecond builtin (pos 21549) 86400 ≡ true) × (hasSecond builtin (pos 21550) 86400 ≡ false)
+unfolding dayLength start offset builtin
+cover z = (refl, refl, refl, refl)
+
 -- ---- outside: a CUC count that does not fit, a day before the epoch of CDS; a moment before the table's days
 record Refusing (setting : Setting) (r : Time) (n : ℕ) : Type 0 where
   ready : Ready r setting room
-  refuses : written r setting room ≡ refused n
+  refuses : written builtin r setting room ≡ refused n
 
 abbrev early : Time
 early = time (pos 441763209) 0
 
 outside : Refusing (Binary 0x10 (pos 0) true) leap 7 × Refusing (Binary 0x48 (pos 21550) true) leap 7 × Refusing (Binary 0x40 (pos 0) true) early 5 × Refusing (Binary 0x50 (pos 0) true) early 5 × Refusing (letters true 0 false) early 5
-unfolding good within known laid cucLaid cdsLaid ccsLaid scanIn scanAt scanOf writeOf roomed countOf U.isWidth U.width U.unit U.timeOf U.field U.holds U.countOf U.bytesOf D.isWidth D.width D.timed D.fieldBy D.held D.laid D.bytesOn D.bytesBy C.width C.dayAt C.clockAt C.timeOf C.fieldBy C.dateText C.clockText C.bytesBy A.width A.layoutOf A.dayAt A.clockAt A.fieldsOf A.timeOf A.textBy A.dayText A.clockText A.codeText A.bytesBy shaped shapes L.utcOfSecond L.readingOf L.raisedBy L.secondOfUtc L.secondOf readingAt coversSecond dayHolding secondAt covers dayLength start offset builtin kind yearStart yearsTo row monthLength isDate isOrdinal dayIndex ordinalOn dateIn indexOfDate indexOfOrdinal indexOfDay ordinalAt
+unfolding good within known laid cucLaid cdsLaid ccsLaid scanIn scanAt scanOf writeOf roomed countOf U.isWidth U.width U.unit U.timeOf U.field U.holds U.countOf U.bytesOf D.isWidth D.width D.timed D.field D.held D.laid D.bytesOf C.width C.dayAt C.clockAt C.field C.dateText C.clockText C.bytesOf A.width A.layoutOf A.dayAt A.clockAt A.fieldsOf A.text A.dayText A.clockText A.codeText A.bytesOf lettersOf shaped shapes timeOf momentOf isMoment L.utcOfSecond L.readingOf L.raisedBy L.secondOfUtc L.secondOf readingAt coversSecond dayHolding secondAt covers dayLength start offset builtin kind yearStart yearsTo row monthLength isDate isOrdinal dayIndex ordinalOn dateIn indexOfDate indexOfOrdinal indexOfDay ordinalAt
 outside = (
   record { ready = record { source = refl; settings = (_, refl); room = lit≤ tt }; refuses = refl },
   record { ready = record { source = refl; settings = (_, refl); room = lit≤ tt }; refuses = refl },
@@ -138,18 +149,18 @@ outside = (
 abbrev lent : ℕ → List ℤ
 lent n = replicate n (pos 9)
 
-counts : given (listed (lent 2)) (listBy (counter (16 ∷ 0 ∷ []) Front (pos 0)) (time (pos 0) 0) (time (pos 1024) 0)) ≡ done (record { ticks = 0; count = 2; more = true })
+counts : given (listed (lent 2)) (listBy builtin (counter (16 ∷ 0 ∷ []) Front (pos 0)) (time (pos 0) 0) (time (pos 1024) 0)) ≡ done (record { ticks = 0; count = 2; more = true })
 unfolding good within known laid cucLaid cdsLaid ccsLaid scanIn scanAt scanOf writeOf roomed countOf U.isWidth U.width U.unit U.timeOf U.field U.holds U.countOf U.bytesOf K.isCuc K.tagWith K.tagIn K.tagAt K.tagOf K.listPeriodic K.listCuc startAt momentsIn firstSecond counted namedIn filter consIf range up listed
 counts = refl
 
 -- "::60" over the five seconds around 2016-12-31T23:59:60
-sixties : given (listed (lent 2)) (listBy (P.letters (bytes "::60")) (time (pos 1861920034) 0) (time (pos 1861920039) 0)) ≡ done (record { ticks = 0; count = 1; more = false })
-unfolding good within L.utcOfSecond L.readingOf L.raisedBy L.secondOfUtc L.secondOf readingAt coversSecond dayHolding secondAt covers dayLength start offset builtin kind yearStart yearsTo row monthLength isDate isOrdinal dayIndex ordinalOn dateIn indexOfDate indexOfOrdinal indexOfDay ordinalAt calendarAs clockAs unzoned timeIn alone joined formed goodDay goodClock tagOf names dayFits clockFits AsciiTag.covered AsciiTag.listWanted AsciiTag.listAscii shapeOf days months hours minutes startAt momentsIn firstSecond namedIn filter consIf range up listed
+sixties : given (listed (lent 2)) (listBy builtin (P.letters (bytes "::60")) (time (pos 1861920034) 0) (time (pos 1861920039) 0)) ≡ done (record { ticks = 0; count = 1; more = false })
+unfolding good within timeOf momentOf isMoment L.utcOfSecond L.readingOf L.raisedBy L.secondOfUtc L.secondOf readingAt coversSecond dayHolding secondAt covers dayLength start offset builtin kind yearStart yearsTo row monthLength isDate isOrdinal dayIndex ordinalOn dateIn indexOfDate indexOfOrdinal indexOfDay ordinalAt calendarAs clockAs unzoned timeIn alone joined formed goodDay goodClock tagOf names dayFits clockFits AsciiTag.covered AsciiTag.listWanted AsciiTag.listAscii shapeOf days months hours minutes startAt momentsIn firstSecond namedIn filter consIf range up listed
 sixties = refl
 
 -- ---- each call ends with a result, and each is refused: among them all nine numbers
 abbrev answers : List Call → List ℕ
-answers = map (λ (c : Call). status (outcomeOf c))
+answers = map (λ (c : Call). status (outcomeOf builtin c))
 
 abbrev layout : ℕ → Layout
 layout d = record { ordinal = false; digits = d; zone = true }
@@ -159,7 +170,7 @@ results : answers
     ∷ P.readBinary (0x1c ∷ 0x6e ∷ 0xfa ∷ 0xa5 ∷ 0x24 ∷ []) true 0 (pos 0) ∷ P.writeBinary leap true 0x1c (pos 0) room ∷ P.readAscii (bytes "2016-12-31T23:59:60") ∷ P.writeAscii leap (layout 12) room ∷ P.writeWall leap room
     ∷ P.listCuc (16 ∷ 0 ∷ []) true 0 (pos 0) (time (pos 0) 0) (time (pos 9) 0) ∷ P.listAscii (bytes "::60") leap leap ∷ [])
     ≡ replicate 15 0
-unfolding good within known laid cucLaid cdsLaid ccsLaid scanIn scanAt scanOf writeOf roomed countOf U.isWidth U.width U.unit U.timeOf U.field U.holds U.countOf U.bytesOf A.width A.layoutOf A.dayAt A.clockAt A.fieldsOf A.timeOf A.textBy A.dayText A.clockText A.codeText A.bytesBy shaped shapes L.utcOfSecond L.readingOf L.raisedBy L.secondOfUtc L.secondOf readingAt coversSecond dayHolding secondAt covers dayLength start offset builtin kind yearStart yearsTo row monthLength isDate isOrdinal dayIndex ordinalOn dateIn indexOfDate indexOfOrdinal indexOfDay ordinalAt K.isCuc K.tagWith K.tagIn K.tagAt K.tagOf K.listPeriodic K.listCuc startAt momentsIn firstSecond counted namedIn filter consIf range up calendarAs clockAs unzoned timeIn alone joined formed goodDay goodClock tagOf names dayFits clockFits AsciiTag.covered AsciiTag.listWanted AsciiTag.listAscii shapeOf days months hours minutes
+unfolding good within known laid cucLaid cdsLaid ccsLaid scanIn scanAt scanOf writeOf roomed countOf U.isWidth U.width U.unit U.timeOf U.field U.holds U.countOf U.bytesOf A.width A.layoutOf A.dayAt A.clockAt A.fieldsOf A.text A.dayText A.clockText A.codeText A.bytesOf lettersOf shaped shapes timeOf momentOf isMoment L.utcOfSecond L.readingOf L.raisedBy L.secondOfUtc L.secondOf readingAt coversSecond dayHolding secondAt covers dayLength start offset builtin kind yearStart yearsTo row monthLength isDate isOrdinal dayIndex ordinalOn dateIn indexOfDate indexOfOrdinal indexOfDay ordinalAt K.isCuc K.tagWith K.tagIn K.tagAt K.tagOf K.listPeriodic K.listCuc startAt momentsIn firstSecond counted namedIn filter consIf range up calendarAs clockAs unzoned timeIn alone joined formed goodDay goodClock tagOf names dayFits clockFits AsciiTag.covered AsciiTag.listWanted AsciiTag.listAscii shapeOf days months hours minutes
 results = refl
 
 refusals : answers
@@ -167,5 +178,5 @@ refusals : answers
     ∷ P.readBinary (0x1c ∷ 0x6e ∷ []) true 0 (pos 0) ∷ P.writeBinary leap true 0x60 (pos 0) room ∷ P.readAscii (bytes "2016-12-31T12:00:60") ∷ P.writeAscii leap (layout 13) room ∷ P.writeWall leap (7 ∷ [])
     ∷ P.listCuc (16 ∷ 0 ∷ []) true 0 (pos 0) (time (pos 9) 0) (time (pos 0) 0) ∷ P.listAscii (bytes "::60") early leap ∷ [])
     ≡ 7 ∷ 7 ∷ 4 ∷ 7 ∷ 4 ∷ 7 ∷ 5 ∷ 6 ∷ 1 ∷ 2 ∷ 4 ∷ 3 ∷ 8 ∷ 9 ∷ 5 ∷ []
-unfolding good within known laid cucLaid cdsLaid ccsLaid scanIn scanAt scanOf writeOf roomed countOf U.isWidth U.width U.unit U.timeOf U.field U.holds U.countOf U.bytesOf A.width A.layoutOf A.dayAt A.clockAt A.fieldsOf A.timeOf A.textBy A.dayText A.clockText A.codeText A.bytesBy shaped shapes L.utcOfSecond L.readingOf L.raisedBy L.secondOfUtc L.secondOf readingAt coversSecond dayHolding secondAt covers dayLength start offset builtin kind yearStart yearsTo row monthLength isDate isOrdinal dayIndex ordinalOn dateIn indexOfDate indexOfOrdinal indexOfDay ordinalAt K.isCuc K.tagWith K.tagIn K.tagAt K.tagOf K.listPeriodic K.listCuc startAt momentsIn firstSecond counted namedIn filter consIf range up calendarAs clockAs unzoned timeIn alone joined formed goodDay goodClock tagOf names dayFits clockFits AsciiTag.covered AsciiTag.listWanted AsciiTag.listAscii shapeOf days months hours minutes
+unfolding good within known laid cucLaid cdsLaid ccsLaid scanIn scanAt scanOf writeOf roomed countOf U.isWidth U.width U.unit U.timeOf U.field U.holds U.countOf U.bytesOf A.width A.layoutOf A.dayAt A.clockAt A.fieldsOf A.text A.dayText A.clockText A.codeText A.bytesOf lettersOf shaped shapes timeOf momentOf isMoment L.utcOfSecond L.readingOf L.raisedBy L.secondOfUtc L.secondOf readingAt coversSecond dayHolding secondAt covers dayLength start offset builtin kind yearStart yearsTo row monthLength isDate isOrdinal dayIndex ordinalOn dateIn indexOfDate indexOfOrdinal indexOfDay ordinalAt K.isCuc K.tagWith K.tagIn K.tagAt K.tagOf K.listPeriodic K.listCuc startAt momentsIn firstSecond counted namedIn filter consIf range up calendarAs clockAs unzoned timeIn alone joined formed goodDay goodClock tagOf names dayFits clockFits AsciiTag.covered AsciiTag.listWanted AsciiTag.listAscii shapeOf days months hours minutes
 refusals = refl

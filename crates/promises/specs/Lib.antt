@@ -1,3 +1,4 @@
+pub mod Octet
 pub mod Promises
 pub mod Rungs
 pub mod RungsScale
@@ -5,3 +6,4 @@ pub mod RungsCalendar
 pub mod RungsAscii
 pub mod RungsBinary
 pub mod RungsTags
+pub mod RungsCalls

@@ -1,30 +1,30 @@
--- What the promises speak of, in the user's words, over the definitions that the contracts of the C interface cite.
+-- What the promises speak of, in the user's words, over the definitions that the contracts of the C interface cite. They cite them with the built-in table; here it is any table t.
 use mathlib.Core.Path.{_≡_}
 use mathlib.Core.Bool.{Bool, true, false}
 use mathlib.Core.List.{List, [], _++_}
 use mathlib.Core.Logic.{_⊎_, _↔_}
-use Prim.Native.Nat.{ℕ, _+_, _*_, _/_, _%_, _^_, _≤_, min}
+use Prim.Native.Nat.{ℕ, _+_, _*_, _^_, _≤_, min}
 use lib.IntN.{ℤ, pos, _+ℤ_}
 use lib.ListN.{length, getD, take, drop}
 use Rattle.base.specs.Outcome.{Outcome, done, refused, given}
 use Rattle.scale.specs.Time.{Time, perSecond, worth, isRecord, differenceOf, shiftOf}
 use Rattle.scale.specs.Latest.{Latest}
-use Rattle.leap.specs.Builtin.{builtin}
 use Rattle.calendar.specs.Gregorian as G
 use Rattle.calendar.specs.declared.Date.{Date}
 use Rattle.calendar.specs.declared.Ordinal.{Ordinal}
+use Rattle.leap.specs.Table.{Table}
 use Rattle.leap.specs.Utc as L
 use Rattle.leap.specs.declared.Utc.{Utc}
 use Rattle.cuc.specs.Cuc as U
 use Rattle.cds.specs.Cds as D
-use Rattle.ascii.specs.Ascii.{isLayout, width, layoutOf, text, bit}
+use Rattle.ascii.specs.Ascii.{isLayout, width, layoutOf, bit}
 use Rattle.ascii.specs.declared.Layout.{Layout}
 use Rattle.codes.specs.PField.{laid}
-use Rattle.codes.specs.Reading.{Scanned, scanned, scanOf, usedOf, widthOf}
+use Rattle.codes.specs.Reading.{Scanned, scanned, scanOf, usedOf, widthOf, HasDay}
 use Rattle.codes.specs.Writing.{from, writeOf}
+use Rattle.codes.specs.Text.{textOf}
 use Rattle.codes.specs.Setting.{asciiOf, wallOf}
 use Rattle.codes.specs.declared.Preamble.{Preamble}
-use Rattle.codes.specs.declared.Preamble.the-variants.{Front, Given}
 use Rattle.codes.specs.declared.pfield.Layout as P
 use Rattle.codes.specs.declared.pfield.Layout.the-variants.{Cuc, Cds, Ccs}
 use Rattle.codes.specs.declared.setting.Setting.{Setting}
@@ -35,6 +35,7 @@ use Rattle.tag.specs.Shortening as A
 use Rattle.tags.specs.Records.{Inside, Sooner}
 use Rattle.tags.specs.CucTag as C
 use Rattle.tags.specs.AsciiTag as T
+use Rattle.promises.specs.Octet.{octetIn, coarse}
 
 -- ---- "Every entry point takes any bytes, any record, any settings and any room"
 -- the calls of the C interface: all that a caller hands over
@@ -73,41 +74,44 @@ Result (writeWall r out) = List ℕ
 Result (listCuc s front p e since before) = Named ℤ
 Result (listAscii s since before) = Named ℤ
 
-abbrev pub outcomeOf : (c : Call) → Outcome (Result c)
-outcomeOf (difference a b) = differenceOf a b
-outcomeOf (shift r s) = shiftOf r s
-outcomeOf (dayOfDate y m d) = G.dayOfDate y m d
-outcomeOf (dateOfDay z) = G.dateOfDay z
-outcomeOf (dayOfOrdinal y d) = G.dayOfOrdinal y d
-outcomeOf (ordinalOfDay z) = G.ordinalOfDay z
-outcomeOf (utcOfSecond z) = L.utcOfSecond builtin z
-outcomeOf (secondOfUtc d x) = L.secondOfUtc builtin d x
-outcomeOf (readBinary s front p e) = scanOf s (from front p) e
-outcomeOf (writeBinary r front p e out) = writeOf r p e front out
-outcomeOf (readAscii s) = text s
-outcomeOf (writeAscii r l out) = asciiOf l r out
-outcomeOf (writeWall r out) = wallOf r out
-outcomeOf (listCuc s front p e since before) = C.listCuc s (from front p) e since before
-outcomeOf (listAscii s since before) = T.listAscii s since before
+abbrev pub outcomeOf : Table → (c : Call) → Outcome (Result c)
+outcomeOf t (difference a b) = differenceOf a b
+outcomeOf t (shift r s) = shiftOf r s
+outcomeOf t (dayOfDate y m d) = G.dayOfDate y m d
+outcomeOf t (dateOfDay z) = G.dateOfDay z
+outcomeOf t (dayOfOrdinal y d) = G.dayOfOrdinal y d
+outcomeOf t (ordinalOfDay z) = G.ordinalOfDay z
+outcomeOf t (utcOfSecond z) = L.utcOfSecond t z
+outcomeOf t (secondOfUtc d x) = L.secondOfUtc t d x
+outcomeOf t (readBinary s front p e) = scanOf t s (from front p) e
+outcomeOf t (writeBinary r front p e out) = writeOf t r p e front out
+outcomeOf t (readAscii s) = textOf t s
+outcomeOf t (writeAscii r l out) = asciiOf t l r out
+outcomeOf t (writeWall r out) = wallOf t r out
+outcomeOf t (listCuc s front p e since before) = C.listCuc s (from front p) e since before
+outcomeOf t (listAscii s since before) = T.listAscii t s since before
 
 -- it ends with a result ..
 abbrev pub Done : {A : Type 0} → Outcome A → Type 0
 Done {A} o = (a : A) × (o ≡ done a)
 
--- .. "or one of nine numbered refusals"
+-- .. "or one of nine numbered refusals": 1 to 9
+abbrev pub lastNumber : ℕ
+lastNumber = 9
+
 abbrev pub Refused : {A : Type 0} → Outcome A → Type 0
-Refused o = (n : ℕ) × (o ≡ refused n) × (1 ≤ n) × (n ≤ 9)
+Refused o = (n : ℕ) × (o ≡ refused n) × (1 ≤ n) × (n ≤ lastNumber)
 
 -- ---- reading and writing: "CUC, CDS, CCS and ASCII A and B" at once, by the setting
 -- what bytes read to under a setting: "A P octet is read from the front or supplied by the caller apart"; "An ASCII code is the whole slice"
-abbrev pub readBy : Setting → List ℕ → Outcome Time
-readBy (Binary p e front) s = given (λ (x : Scanned). x .moment) (scanOf s (from front p) e)
-readBy (Ascii l) s = text s
+abbrev pub readUnder : Table → Setting → List ℕ → Outcome Time
+readUnder t (Binary p e front) s = given (λ (x : Scanned). x .moment) (scanOf t s (from front p) e)
+readUnder t (Ascii l) s = textOf t s
 
 -- the bytes that the code takes: "Binary reading returns the part of the caller's bytes that follows the code"
-abbrev pub codeIn : Setting → List ℕ → List ℕ
-codeIn (Binary p e front) s = take (usedOf (scanOf s (from front p) e)) s
-codeIn (Ascii l) s = s
+abbrev pub codeIn : Table → Setting → List ℕ → List ℕ
+codeIn t (Binary p e front) s = take (usedOf (scanOf t s (from front p) e)) s
+codeIn t (Ascii l) s = s
 
 -- .. and what may follow it
 abbrev pub MayFollow : Setting → List ℕ → Type 0
@@ -121,15 +125,15 @@ OfSetting (Binary p e false) s = Unit {0}
 OfSetting (Ascii l) s = layoutOf s ≡ l
 
 -- a "time the target can hold": one that some bytes of the setting read to
-abbrev pub Holdable : Setting → Time → Type 0
-Holdable setting x = (s : List ℕ) × (OfSetting setting s) × (readBy setting s ≡ done x)
+abbrev pub Holdable : Table → Setting → Time → Type 0
+Holdable t setting x = (s : List ℕ) × (OfSetting setting s) × (readUnder t setting s ≡ done x)
 
 -- what a written code yields: "the latest time the target can hold that is not after the source", read from the code itself, whatever follows it
-pub record Yields (setting : Setting) (r : Time) (code : List ℕ) (m : Time) : Type 0 where
-  pub latest : Latest (Holdable setting) r m
+pub record Yields (t : Table) (setting : Setting) (r : Time) (code : List ℕ) (m : Time) : Type 0 where
+  pub latest : Latest (Holdable t setting) r m
   pub own : OfSetting setting code
-  pub reads : (rest : List ℕ) → MayFollow setting rest → readBy setting (code ++ rest) ≡ done m
-  pub whole : (rest : List ℕ) → MayFollow setting rest → codeIn setting (code ++ rest) ≡ code
+  pub reads : (rest : List ℕ) → MayFollow setting rest → readUnder t setting (code ++ rest) ≡ done m
+  pub whole : (rest : List ℕ) → MayFollow setting rest → codeIn t setting (code ++ rest) ≡ code
 
 -- ---- "With a valid source, settings and epochs and enough room"
 -- an identification, a layout and an epoch that there are; at most 12 digits
@@ -164,45 +168,45 @@ isUtc (Binary p e front) = isUtcIn (laid p e)
 isUtc (Ascii l) = true
 
 -- the source is on one of the table's days
-abbrev pub Covered : Time → Type 0
-Covered r = Done (L.utcOfSecond builtin (r .sec))
+abbrev pub Covered : Table → Time → Type 0
+Covered t r = Done (L.utcOfSecond t (r .sec))
 
 -- "A target holds a source when its count of whole seconds from the epoch, taken downward (CUC), or of UTC days from the epoch (CDS), is not negative and fits the field. CCS and ASCII hold every covered moment": of that second, or on that day, there is a time that some T-field reads to
-abbrev pub HoldsIn : P.Layout → Time → Type 0
-HoldsIn (Cuc l) r = U.Holds l r
-HoldsIn (Cds l) r = (u : Utc) × ((L.utcOfSecond builtin (r .sec) ≡ done u) × D.Holds l (u .day))
-HoldsIn (Ccs l) r = Covered r
+abbrev pub HoldsIn : Table → P.Layout → Time → Type 0
+HoldsIn t (Cuc l) r = U.Holds l r
+HoldsIn t (Cds l) r = (u : Utc) × ((L.utcOfSecond t (r .sec) ≡ done u) × HasDay t (Cds l) (u .day))
+HoldsIn t (Ccs l) r = Covered t r
 
-abbrev pub Holds : Setting → Time → Type 0
-Holds (Binary p e front) r = (l : P.Layout) × ((laid p e ≡ done l) × HoldsIn l r)
-Holds (Ascii l) r = Covered r
+abbrev pub Holds : Table → Setting → Time → Type 0
+Holds t (Binary p e front) r = (l : P.Layout) × ((laid p e ≡ done l) × HoldsIn t l r)
+Holds t (Ascii l) r = Covered t r
 
 -- the same by the counts themselves
-abbrev pub FitsIn : P.Layout → Time → Type 0
-FitsIn (Cuc l) r = U.holds l r ≡ true
-FitsIn (Cds l) r = (u : Utc) × ((L.utcOfSecond builtin (r .sec) ≡ done u) × (D.held l (u .day) ≡ true))
-FitsIn (Ccs l) r = Covered r
+abbrev pub FitsIn : Table → P.Layout → Time → Type 0
+FitsIn t (Cuc l) r = U.holds l r ≡ true
+FitsIn t (Cds l) r = (u : Utc) × ((L.utcOfSecond t (r .sec) ≡ done u) × (D.held l (u .day) ≡ true))
+FitsIn t (Ccs l) r = Covered t r
 
 -- which refusal: 5 outside the table's days, for UTC codes; else 7 outside the target's range
-abbrev pub Outside : Setting → Time → ℕ → Type 0
-Outside setting r n =
-    ((n ≡ 5) × (isUtc setting ≡ true) × (Covered r → ⊥))
-    ⊎ ((n ≡ 7) × (isUtc setting ≡ true → Covered r) × (Holds setting r → ⊥))
+abbrev pub Outside : Table → Setting → Time → ℕ → Type 0
+Outside t setting r n =
+    ((n ≡ 5) × (isUtc setting ≡ true) × (Covered t r → ⊥))
+    ⊎ ((n ≡ 7) × (isUtc setting ≡ true → Covered t r) × (Holds t setting r → ⊥))
 
 -- ---- "on one exact scale"
 abbrev pub second : Time
 second = record { sec = pos 1; ticks = 0 }
 
 -- a time shows second x of a UTC day; 86,400 is 23:59:60
-pub record Shows (m : Time) (day : ℤ) (x : ℕ) : Type 0 where
+pub record Shows (t : Table) (m : Time) (day : ℤ) (x : ℕ) : Type 0 where
   pub utc : Utc
-  pub reading : L.utcOfSecond builtin (m .sec) ≡ done utc
+  pub reading : L.utcOfSecond t (m .sec) ≡ done utc
   pub on : utc .day ≡ day
   pub at : utc .second ≡ x
 
 -- two texts that read to times one second apart
-abbrev pub SecondApart : List ℕ → List ℕ → Type 0
-SecondApart s s' = (m m' : Time) × (text s ≡ done m) × (text s' ≡ done m') × (differenceOf m' m ≡ done second)
+abbrev pub SecondApart : Table → List ℕ → List ℕ → Type 0
+SecondApart t s s' = (m m' : Time) × (textOf t s ≡ done m) × (textOf t s' ≡ done m') × (differenceOf m' m ≡ done second)
 
 -- ---- "A shortened tag (a CUC code whose counter wraps, or an ASCII subset with its left part dropped) can mean many moments"
 -- a tag as it is handed over: a CUC tag with its P octet, in front or apart, and epoch; or an ASCII tag
@@ -210,51 +214,43 @@ pub data Shortened : Type 0 where
   counter : List ℕ → Preamble → ℤ → Shortened
   letters : List ℕ → Shortened
 
-abbrev pub listBy : Shortened → Time → Time → Outcome (Named ℤ)
-listBy (counter s p e) from to = C.listCuc s p e from to
-listBy (letters s) from to = T.listAscii s from to
-
--- a tag's P octet, and "Bits 4-5: coarse octets less one"
-abbrev pub octetOf : Preamble → List ℕ → ℕ
-octetOf (Given o) s = o
-octetOf Front s = getD s 0 0
-
-abbrev pub coarse : ℕ → ℕ
-coarse o = o / 4 % 4 + 1
+abbrev pub listBy : Table → Shortened → Time → Time → Outcome (Named ℤ)
+listBy t (counter s p e) from to = C.listCuc s p e from to
+listBy t (letters s) from to = T.listAscii t s from to
 
 -- m is "epoch + T + k × 256^c seconds" for some "whole k of 0 or more": epoch + T is what the tag, as a code, reads to
-pub record Counted (s : List ℕ) (p : Preamble) (e : ℤ) (m : Time) : Type 0 where
+pub record Counted (t : Table) (s : List ℕ) (p : Preamble) (e : ℤ) (m : Time) : Type 0 where
   pub first : Time
-  pub reads : scanOf s p e ≡ done (scanned (length s) first)
+  pub reads : scanOf t s p e ≡ done (scanned (length s) first)
   pub k : ℕ
-  pub exact : worth m ≡ worth first +ℤ pos (k * 256 ^ coarse (octetOf p s) * perSecond)
+  pub exact : worth m ≡ worth first +ℤ pos (k * 256 ^ coarse (octetIn s p) * perSecond)
 
 -- "names by the published code": of an ASCII tag, some full code of which the text is a shortening reads to the moment
-abbrev pub NamedBy : Shortened → Time → Type 0
-NamedBy (counter s p e) m = (isRecord m ≡ true) × Counted s p e m
-NamedBy (letters s) m = A.Names s m
+abbrev pub NamedBy : Table → Shortened → Time → Type 0
+NamedBy t (counter s p e) m = (isRecord m ≡ true) × Counted t s p e m
+NamedBy t (letters s) m = A.Names t s m
 
 -- what stands in a list that a call filled: its first elements, as many as the answer says
 abbrev pub shown : Listed → List ℤ → List ℤ
 shown answer exit = take (answer .count) exit
 
 -- a named moment of the window
-pub record Wanted (tag : Shortened) (from to m : Time) : Type 0 where
-  pub named : NamedBy tag m
+pub record Wanted (t : Table) (tag : Shortened) (from to m : Time) : Type 0 where
+  pub named : NamedBy t tag m
   pub inside : Inside from to m
 
-pub record Lists (tag : Shortened) (from to : Time) (entry exit : List ℤ) (answer : Listed) : Type 0 where
+pub record Lists (t : Table) (tag : Shortened) (from to : Time) (entry exit : List ℤ) (answer : Listed) : Type 0 where
   -- "exactly the moments in the window that the tag names": all of them, and nothing else ..
   pub all : List ℤ
-  pub exactly : (m : Time) → ((m .ticks ≡ answer .ticks) × Among (m .sec) all) ↔ Wanted tag from to m
+  pub exactly : (m : Time) → ((m .ticks ≡ answer .ticks) × Among (m .sec) all) ↔ Wanted t tag from to m
   -- ".. ascending, each once"
   pub ascending : Ascending Sooner all
   -- "The number listed is the room or the number of named moments in the window, whichever is less", the earliest first
   pub number : answer .count ≡ min (length entry) (length all)
   pub first : shown answer exit ≡ take (answer .count) all
   -- "the earliest first when room runs out": a named moment that is not listed is later than all that are, and the room is full
-  pub earliest : (m : Time) → Wanted tag from to m → (Among (m .sec) (shown answer exit) → ⊥) → (answer .count ≡ length entry) × ((z : ℤ) → Among z (shown answer exit) → Sooner z (m .sec))
+  pub earliest : (m : Time) → Wanted t tag from to m → (Among (m .sec) (shown answer exit) → ⊥) → (answer .count ≡ length entry) × ((z : ℤ) → Among z (shown answer exit) → Sooner z (m .sec))
   -- ""More" is said exactly when a further one remains"
-  pub more : (answer .more ≡ true) ↔ ((m : Time) × (Wanted tag from to m × (Among (m .sec) (shown answer exit) → ⊥)))
+  pub more : (answer .more ≡ true) ↔ ((m : Time) × (Wanted t tag from to m × (Among (m .sec) (shown answer exit) → ⊥)))
   -- "Elements beyond the number listed stay"
   pub stay : drop (answer .count) exit ≡ drop (answer .count) entry

@@ -3,9 +3,10 @@ use mathlib.Core.Path.{_≡_}
 use mathlib.Core.Bool.{Bool, true, false, cond, _&&_}
 use mathlib.Core.List.{List, [], _∷_}
 use mathlib.Core.Logic.{_↔_}
-use Prim.Native.Nat.{ℕ, _<_}
+use Prim.Native.Nat.{ℕ}
 use lib.Dec.{leb}
 use Rattle.base.specs.Outcome.{Outcome, refused, status}
+use Rattle.promises.specs.Promises.{Done, lastNumber}
 
 -- a refusal's number, and the condition that spares it
 pub record Rung : Type 0 where
@@ -30,14 +31,15 @@ abbrev pub allHold : List Rung → Bool
 allHold [] = true
 allHold (r ∷ rs) = r .holds && allHold rs
 
--- no rung has number 0, which is the number of no refusal
+-- every rung's number is a refusal's
 abbrev pub numbered : List Rung → Bool
 numbered [] = true
-numbered (r ∷ rs) = leb 1 (r .number) && numbered rs
+numbered (r ∷ rs) = (leb 1 (r .number) && leb (r .number) lastNumber) && numbered rs
 
--- a call is refused by its rungs: each refusal is given exactly when its rung is broken and every rung before it holds, and a value exactly when all hold
+-- a call is refused by its rungs: each refusal is given exactly when its rung is broken and every rung before it holds, and a result exactly when all hold
 module _ {A : Type 0} where
   pub record Exactly (x : Outcome A) (rs : List Rung) : Type 0 where
+    pub refuses : (n : ℕ) → (x ≡ refused n) ↔ Broken n rs
+    pub passes : Done x ↔ (allHold rs ≡ true)
+    -- what a call from C answers
     pub answers : status x ≡ firstBroken rs
-    pub refuses : (n : ℕ) → 0 < n → (x ≡ refused n) ↔ Broken n rs
-    pub passes : (status x ≡ 0) ↔ (allHold rs ≡ true)

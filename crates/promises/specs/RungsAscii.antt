@@ -7,6 +7,7 @@ use lib.IntN.{ℤ}
 use lib.ListN.{length}
 use Rattle.scale.specs.Time.{Time, isRecord}
 use Rattle.calendar.specs.Gregorian.{isDate, isOrdinal, dayIndex, dayOfYear, fromEpoch}
+use Rattle.leap.specs.Table.{Table}
 use Rattle.clock.specs.Clock.{clockOk, secondOfDay}
 use Rattle.ascii.specs.Shapes.{shaped}
 use Rattle.ascii.specs.Ascii.{frontOf, layoutOf, numberAt, width}
@@ -41,18 +42,18 @@ abbrev pub dayIn : List ℕ → ℤ
 dayIn s = fromEpoch (indexIn (isB s) s)
 
 -- "ASCII is empty" 1; "a field .. character or length breaks its rule" 4; "UTC day outside the table" 5; "a second 60 .. on a day without one" 6
-abbrev pub readAsciiRungs : List ℕ → List Rung
-readAsciiRungs s =
+abbrev pub readAsciiRungs : Table → List ℕ → List Rung
+readAsciiRungs t s =
     rung 1 (leb 1 (length s)) ∷
     rung 4 (shaped s && (dateGood (isB s) s && clockGood s (clockIn s))) ∷
-    rung 5 (coveredDay (dayIn s)) ∷
-    rung 6 (hasSecond (dayIn s) (secondIn s (clockIn s))) ∷ []
+    rung 5 (coveredDay t (dayIn s)) ∷
+    rung 6 (hasSecond t (dayIn s) (secondIn s (clockIn s))) ∷ []
 
 -- "invalid record" 7; "a writer's digits over 12" 3; 5; "output too short" 8
-abbrev pub writeAsciiRungs : Layout → Time → List ℕ → List Rung
-writeAsciiRungs l r out =
-    rung 7 (isRecord r) ∷ rung 3 (leb (l .digits) 12) ∷ rung 5 (coveredSecond (r .sec)) ∷ rung 8 (leb (width l) (length out)) ∷ []
+abbrev pub writeAsciiRungs : Table → Layout → Time → List ℕ → List Rung
+writeAsciiRungs t l r out =
+    rung 7 (isRecord r) ∷ rung 3 (leb (l .digits) 12) ∷ rung 5 (coveredSecond t (r .sec)) ∷ rung 8 (leb (width l) (length out)) ∷ []
 
 -- YYYY-MM-DDThh:mm:ss.fffZ is 24 characters long
-abbrev pub writeWallRungs : Time → List ℕ → List Rung
-writeWallRungs r out = rung 7 (isRecord r) ∷ rung 5 (coveredSecond (r .sec)) ∷ rung 8 (leb 24 (length out)) ∷ []
+abbrev pub writeWallRungs : Table → Time → List ℕ → List Rung
+writeWallRungs t r out = rung 7 (isRecord r) ∷ rung 5 (coveredSecond t (r .sec)) ∷ rung 8 (leb 24 (length out)) ∷ []

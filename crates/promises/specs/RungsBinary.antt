@@ -1,69 +1,58 @@
 -- Binary codes, read and written (document 01: "Order when reading: missing P 1, then 2, 3, epoch 7 (only if the code uses one), short T 1, 4, 5, 6. Writing: record 7, then 2, 3, epoch 7, cover 5 (UTC codes only), target 7, room 8").
 use mathlib.Core.Bool.{Bool, true, false, cond, _&&_, _||_}
 use mathlib.Core.List.{List, [], _∷_, _++_}
-use Prim.Native.Nat.{ℕ, _+_, _-_, _*_, _/_, _%_, _^_}
+use Prim.Native.Nat.{ℕ, _+_, _-_, _/_, _^_}
 use lib.Dec.{leb, ltb, eqb}
 use lib.IntN.{ℤ, pos, natAbs, _+ℤ_, _-ℤ_}
-use lib.ListN.{length, getD, drop}
+use lib.ListN.{length, drop}
 use Rattle.base.specs.Parts.{within}
 use Rattle.scale.specs.Time.{Time, isRecord}
 use Rattle.octets.specs.Places.{be, octetGood, bcdOf, bcdGood, allGood}
 use Rattle.calendar.specs.Gregorian.{isDate, isOrdinal, dayIndex, dayOfYear, fromEpoch}
 use Rattle.clock.specs.Clock.{clockOk, secondOfDay}
-use Rattle.leap.specs.Table.{dayHolding}
-use Rattle.leap.specs.Builtin.{builtin}
+use Rattle.leap.specs.Table.{Table, dayHolding}
 use Rattle.leap.specs.Utc.{secondRaise}
 use Rattle.cuc.specs.Cuc.{isEpoch, holds}
 use Rattle.cuc.specs.declared.Layout as U
 use Rattle.cds.specs.Cds.{isEpochDay}
 use Rattle.cds.specs.declared.Layout as D
 use Rattle.ccs.specs.declared.Layout as C
-use Rattle.codes.specs.PField.{ident, known, bit4}
+use Rattle.ascii.specs.Ascii.{bit}
+use Rattle.codes.specs.PField.{ident, known}
 use Rattle.codes.specs.declared.Preamble.{Preamble}
-use Rattle.codes.specs.declared.Preamble.the-variants.{Front, Given}
 use Rattle.codes.specs.declared.pfield.Layout.{Layout}
 use Rattle.codes.specs.declared.pfield.Layout.the-variants.{Cuc, Cds, Ccs}
+use Rattle.promises.specs.Octet.{octetThere, octetIn, fieldAt, unextended, byCode, bits67, cucFrom1958, coarse, fine, cdsFrom1958, dayOctets, partOctets, byOrdinal, segments}
 use Rattle.promises.specs.Rungs.{Rung, rung}
 use Rattle.promises.specs.RungsCalendar.{coveredDay, coveredSecond, hasSecond}
 
--- ---- the P octet: "read from the front or supplied by the caller apart"
-abbrev pub octetThere : List ℕ → Preamble → Bool
-octetThere s Front = leb 1 (length s)
-octetThere s (Given o) = true
-
-abbrev pub octetIn : List ℕ → Preamble → ℕ
-octetIn s Front = getD s 0 0
-octetIn s (Given o) = o
-
--- where the T-field begins
-abbrev pub fieldAt : Preamble → ℕ
-fieldAt Front = 1
-fieldAt (Given o) = 0
-
--- by its identification: CCS 101, CDS 100, and else CUC, once "identification 000, 011, 110, 111" are refused
-abbrev pub byCode : {A : Type 0} → ℕ → A → A → A → A
-byCode o cuc cds ccs = cond (eqb (ident o) 5) ccs (cond (eqb (ident o) 4) cds cuc)
-
+-- ---- the P octet
 -- "extension bit set, CDS 11, CCS 7" are 3
 abbrev pub supported : ℕ → Bool
-supported o = ltb o 128 && byCode o true (ltb (o % 4) 3) (ltb (o % 8) 7)
+supported o = unextended o && byCode o true (ltb (bits67 o) 3) (ltb (segments o) 7)
 
--- "epoch 7 (only if the code uses one)": CUC 001 and a CDS whose bit 4 is 0 count from 1958, and CCS has none
+-- "epoch 7 (only if the code uses one)": what counts from 1958 does not, and CCS has none
+abbrev pub cucEpochGood : ℕ → ℤ → Bool
+cucEpochGood o e = cucFrom1958 o || isEpoch e
+
+abbrev pub cdsEpochGood : ℕ → ℤ → Bool
+cdsEpochGood o e = cdsFrom1958 o || isEpochDay e
+
 abbrev pub epochGood : ℕ → ℤ → Bool
-epochGood o e = byCode o (eqb (ident o) 1 || isEpoch e) (eqb (bit4 o) 0 || isEpochDay e) true
+epochGood o e = byCode o (cucEpochGood o e) (cdsEpochGood o e) true
 
 abbrev pub octetRungs : ℕ → ℤ → List Rung
 octetRungs o e = rung 2 (known (ident o)) ∷ rung 3 (supported o) ∷ rung 7 (epochGood o e) ∷ []
 
 -- ---- the layout that a P octet gives: said of one that is not refused
 abbrev pub cucOf : ℕ → ℤ → U.Layout
-cucOf o e = record { epoch = cond (eqb (ident o) 1) (pos 0) e; coarse = o / 4 % 4 + 1; fine = o % 4 }
+cucOf o e = record { epoch = cond (cucFrom1958 o) (pos 0) e; coarse = coarse o; fine = fine o }
 
 abbrev pub cdsOf : ℕ → ℤ → D.Layout
-cdsOf o e = record { epoch = cond (eqb (bit4 o) 0) (pos 0) e; day = o / 4 % 2 + 2; part = o % 4 * 2 }
+cdsOf o e = record { epoch = cond (cdsFrom1958 o) (pos 0) e; day = dayOctets o; part = partOctets o }
 
 abbrev pub ccsOf : ℕ → C.Layout
-ccsOf o = record { ordinal = eqb (bit4 o) 1; segments = o % 8 }
+ccsOf o = record { ordinal = byOrdinal o; segments = segments o }
 
 abbrev pub layoutOf : ℕ → ℤ → Layout
 layoutOf o e = byCode o (Cuc (cucOf o e)) (Cds (cdsOf o e)) (Ccs (ccsOf o))
@@ -113,52 +102,52 @@ fieldGood s at (Cds l) = allGood octetGood (drop at s) (l .day + 4 + l .part) &&
 fieldGood s at (Ccs l) = allGood bcdGood (drop at s) (7 + l .segments) && (dateGood (l .ordinal) s at && clockGood s (at + 4))
 
 -- the UTC day that the field names is in the table; CUC names no UTC day
-abbrev pub dayGood : List ℕ → ℕ → Layout → Bool
-dayGood s at (Cuc l) = true
-dayGood s at (Cds l) = coveredDay (l .epoch +ℤ pos (countIn s at (l .day)))
-dayGood s at (Ccs l) = coveredDay (fromEpoch (indexIn (l .ordinal) s at))
+abbrev pub dayGood : Table → List ℕ → ℕ → Layout → Bool
+dayGood t s at (Cuc l) = true
+dayGood t s at (Cds l) = coveredDay t (l .epoch +ℤ pos (countIn s at (l .day)))
+dayGood t s at (Ccs l) = coveredDay t (fromEpoch (indexIn (l .ordinal) s at))
 
 -- "a second 60 (or millisecond from 86,400,000) on a day without one"
-abbrev pub secondGood : List ℕ → ℕ → Layout → Bool
-secondGood s at (Cuc l) = true
-secondGood s at (Cds l) = hasSecond (l .epoch +ℤ pos (countIn s at (l .day))) (milliIn s at l / 1000)
-secondGood s at (Ccs l) = hasSecond (fromEpoch (indexIn (l .ordinal) s at)) (secondIn s (at + 4))
+abbrev pub secondGood : Table → List ℕ → ℕ → Layout → Bool
+secondGood t s at (Cuc l) = true
+secondGood t s at (Cds l) = hasSecond t (l .epoch +ℤ pos (countIn s at (l .day))) (milliIn s at l / 1000)
+secondGood t s at (Ccs l) = hasSecond t (fromEpoch (indexIn (l .ordinal) s at)) (secondIn s (at + 4))
 
-abbrev pub fieldRungs : List ℕ → ℕ → Layout → List Rung
-fieldRungs s at l =
+abbrev pub fieldRungs : Table → List ℕ → ℕ → Layout → List Rung
+fieldRungs t s at l =
     rung 1 (leb (at + octetsOf l) (length s)) ∷
     rung 4 (fieldGood s at l) ∷
-    rung 5 (dayGood s at l) ∷
-    rung 6 (secondGood s at l) ∷ []
+    rung 5 (dayGood t s at l) ∷
+    rung 6 (secondGood t s at l) ∷ []
 
-abbrev pub readBinaryRungs : List ℕ → Preamble → ℤ → List Rung
-readBinaryRungs s p e =
-    rung 1 (octetThere s p) ∷ (octetRungs (octetIn s p) e ++ fieldRungs s (fieldAt p) (layoutOf (octetIn s p) e))
+abbrev pub readBinaryRungs : Table → List ℕ → Preamble → ℤ → List Rung
+readBinaryRungs t s p e =
+    rung 1 (octetThere s p) ∷ (octetRungs (octetIn s p) e ++ fieldRungs t s (fieldAt p) (layoutOf (octetIn s p) e))
 
 -- ---- writing
 -- "cover 5 (UTC codes only)"
-abbrev pub sourceGood : Layout → Time → Bool
-sourceGood (Cuc l) r = true
-sourceGood (Cds l) r = coveredSecond (r .sec)
-sourceGood (Ccs l) r = coveredSecond (r .sec)
+abbrev pub sourceGood : Table → Layout → Time → Bool
+sourceGood t (Cuc l) r = true
+sourceGood t (Cds l) r = coveredSecond t (r .sec)
+sourceGood t (Ccs l) r = coveredSecond t (r .sec)
 
 -- the UTC day of a covered second
-abbrev pub utcDay : ℤ → ℤ
-utcDay z = fromEpoch (dayHolding builtin (natAbs (z +ℤ pos secondRaise)))
+abbrev pub utcDay : Table → ℤ → ℤ
+utcDay t z = fromEpoch (dayHolding t (natAbs (z +ℤ pos secondRaise)))
 
 -- "A target holds a source when its count of whole seconds from the epoch, taken downward (CUC), or of UTC days from the epoch (CDS), is not negative and fits the field. CCS and ASCII hold every covered moment"
-abbrev pub targetGood : Layout → Time → Bool
-targetGood (Cuc l) r = holds l r
-targetGood (Cds l) r = within (pos 0) (pos (256 ^ l .day - 1)) (utcDay (r .sec) -ℤ l .epoch)
-targetGood (Ccs l) r = true
+abbrev pub targetGood : Table → Layout → Time → Bool
+targetGood t (Cuc l) r = holds l r
+targetGood t (Cds l) r = within (pos 0) (pos (256 ^ l .day - 1)) (utcDay t (r .sec) -ℤ l .epoch)
+targetGood t (Ccs l) r = true
 
 -- the octets of the code: the P octet's, where it is written, and the T-field's
 abbrev pub codeOctets : Bool → Layout → ℕ
-codeOctets front l = cond front 1 0 + octetsOf l
+codeOctets front l = bit front + octetsOf l
 
-abbrev pub targetRungs : Layout → Time → Bool → List ℕ → List Rung
-targetRungs l r front out =
-    rung 5 (sourceGood l r) ∷ rung 7 (targetGood l r) ∷ rung 8 (leb (codeOctets front l) (length out)) ∷ []
+abbrev pub targetRungs : Table → Layout → Time → Bool → List ℕ → List Rung
+targetRungs t l r front out =
+    rung 5 (sourceGood t l r) ∷ rung 7 (targetGood t l r) ∷ rung 8 (leb (codeOctets front l) (length out)) ∷ []
 
-abbrev pub writeBinaryRungs : Time → ℕ → ℤ → Bool → List ℕ → List Rung
-writeBinaryRungs r o e front out = rung 7 (isRecord r) ∷ (octetRungs o e ++ targetRungs (layoutOf o e) r front out)
+abbrev pub writeBinaryRungs : Table → Time → ℕ → ℤ → Bool → List ℕ → List Rung
+writeBinaryRungs t r o e front out = rung 7 (isRecord r) ∷ (octetRungs o e ++ targetRungs t (layoutOf o e) r front out)

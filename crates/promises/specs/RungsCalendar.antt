@@ -1,13 +1,14 @@
--- Dates and day numbers, TAI seconds and UTC readings (document 01, "The calendar and the table").
-use mathlib.Core.Bool.{Bool, false, _||_}
+-- Dates and day numbers, TAI seconds and UTC readings (document 01, "The calendar and the table"), by any table.
+use mathlib.Core.Bool.{Bool, _&&_}
 use mathlib.Core.List.{List, [], _∷_}
 use Prim.Native.Nat.{ℕ, _+_}
-use lib.Dec.{ltb, leb, eqb}
-use lib.IntN.{ℤ, pos, negsuc, natAbs}
-use lib.ListN.{getD, drop}
-use Rattle.base.specs.Parts.{within}
-use Rattle.calendar.specs.Gregorian.{isDate, isOrdinal}
-use Rattle.leap.specs.Builtin.{published}
+use lib.Dec.{ltb, leb}
+use lib.IntN.{ℤ, pos, negsuc, natAbs, _+ℤ_}
+use lib.Signed.{leZ, ltZ}
+use Rattle.base.specs.Parts.{within, loweredBy}
+use Rattle.calendar.specs.Gregorian.{isDate, isOrdinal, fromEpoch}
+use Rattle.leap.specs.Table.{Table, start, dayLength}
+use Rattle.leap.specs.Utc.{dayRaise, secondRaise}
 use Rattle.promises.specs.Rungs.{Rung, rung}
 
 -- "A bad date is 4, a day number outside them 7"
@@ -28,30 +29,31 @@ abbrev pub ordinalOfDayRungs : ℤ → List Rung
 ordinalOfDayRungs z = rung 7 (isDay z) ∷ []
 
 -- ---- the cover
--- "it covers days 5113 (1972-01-01) to 24836 (2025-12-31)"
-abbrev pub coveredDay : ℤ → Bool
-coveredDay z = within (pos 5113) (pos 24836) z
+-- "it covers days 5113 (1972-01-01) to 24836 (2025-12-31)": from the first row's day to the last day
+abbrev pub coveredDay : Table → ℤ → Bool
+coveredDay t z = within (fromEpoch (t .first .day)) (fromEpoch (t .last)) z
 
--- "Covered TAI seconds are 441,763,210 to 2,145,916,836"
-abbrev pub coveredSecond : ℤ → Bool
-coveredSecond z = within (pos 441763210) (pos 2145916836) z
+-- "Covered TAI seconds are 441,763,210 to 2,145,916,836": from the one in which the first day begins to before the one in which the day past the last begins
+abbrev pub firstCovered : Table → ℤ
+firstCovered t = loweredBy secondRaise (start t (t .first .day))
 
--- a row of the table begins on day n
-abbrev pub begins : List (List ℕ) → ℕ → Bool
-begins [] n = false
-begins (p ∷ ps) n = eqb (getD p 0 0) n || begins ps n
+abbrev pub pastCover : Table → ℤ
+pastCover t = loweredBy secondRaise (start t (t .last + 1))
 
--- "The day before each later row has 86,401 seconds". Said of a covered day
-unfoldable pub isLong : ℤ → Bool
-isLong z = begins (drop 1 published) (natAbs z + 1)
+abbrev pub coveredSecond : Table → ℤ → Bool
+coveredSecond t z = leZ (firstCovered t) z && ltZ z (pastCover t)
 
--- "a second 60 (or millisecond from 86,400,000) on a day without one" is 6: day z has second x. Said of a covered day and a second to 86,400
-abbrev pub hasSecond : ℤ → ℕ → Bool
-hasSecond z x = ltb x 86400 || isLong z
+-- the index of a day. Said of one from 0001-01-01 on, as a covered day is
+abbrev pub indexOf : ℤ → ℕ
+indexOf z = natAbs (z +ℤ pos dayRaise)
 
-abbrev pub utcOfSecondRungs : ℤ → List Rung
-utcOfSecondRungs z = rung 5 (coveredSecond z) ∷ []
+-- "a second 60 (or millisecond from 86,400,000) on a day without one" is 6: day z is long enough for second x. Said of a covered day
+abbrev pub hasSecond : Table → ℤ → ℕ → Bool
+hasSecond t z x = ltb x (dayLength t (indexOf z))
+
+abbrev pub utcOfSecondRungs : Table → ℤ → List Rung
+utcOfSecondRungs t z = rung 5 (coveredSecond t z) ∷ []
 
 -- a second of day over 86,400 breaks its field's rule
-abbrev pub secondOfUtcRungs : ℤ → ℕ → List Rung
-secondOfUtcRungs d x = rung 4 (leb x 86400) ∷ rung 5 (coveredDay d) ∷ rung 6 (hasSecond d x) ∷ []
+abbrev pub secondOfUtcRungs : Table → ℤ → ℕ → List Rung
+secondOfUtcRungs t d x = rung 4 (leb x 86400) ∷ rung 5 (coveredDay t d) ∷ rung 6 (hasSecond t d x) ∷ []

@@ -1,22 +1,24 @@
 -- Listings (document 01: "Listing: the tag as in reading up to 4, then records 7, 9, cover 5").
-use mathlib.Core.Bool.{Bool, false, not, _&&_, _||_}
+use mathlib.Core.Bool.{Bool, false, not, _&&_}
 use mathlib.Core.List.{List, [], _∷_}
 use Prim.Native.Nat.{ℕ, _+_}
-use lib.Dec.{leb, ltb, eqb}
-use lib.IntN.{ℤ, pos}
+use lib.Dec.{leb}
+use lib.IntN.{ℤ}
 use lib.ListN.{length, drop}
 use Rattle.base.specs.Outcome.{Outcome, done, refused}
 use Rattle.scale.specs.Time.{Time, isRecord, earlier}
+use Rattle.leap.specs.Table.{Table}
 use Rattle.octets.specs.Places.{octetGood, allGood}
-use Rattle.cuc.specs.Cuc.{isEpoch}
 use Rattle.codes.specs.PField.{ident}
 use Rattle.codes.specs.declared.Preamble.{Preamble}
 use Rattle.codes.specs.declared.pfield.Layout.the-variants.{Cuc}
 use Rattle.seek.specs.declared.Tag.{Tag}
 use Rattle.tag.specs.Tags.{formed, goodTag}
 use Rattle.tags.specs.CucTag.{isCuc}
+use Rattle.promises.specs.Octet.{octetThere, octetIn, fieldAt, unextended}
 use Rattle.promises.specs.Rungs.{Rung, rung}
-use Rattle.promises.specs.RungsBinary.{octetThere, octetIn, fieldAt, cucOf, octetsOf}
+use Rattle.promises.specs.RungsCalendar.{firstCovered, pastCover}
+use Rattle.promises.specs.RungsBinary.{cucEpochGood, cucOf, octetsOf}
 
 -- "invalid record" 7; "window's end before its start" 9
 abbrev pub inOrder : Time → Time → Bool
@@ -36,8 +38,8 @@ abbrev pub listCucRungs : List ℕ → Preamble → ℤ → Time → Time → Li
 listCucRungs s p e from to =
     rung 1 (octetThere s p) ∷
     rung 2 (isCuc (ident (octetIn s p))) ∷
-    rung 3 (ltb (octetIn s p) 128) ∷
-    rung 7 (eqb (ident (octetIn s p)) 1 || isEpoch e) ∷
+    rung 3 (unextended (octetIn s p)) ∷
+    rung 7 (cucEpochGood (octetIn s p) e) ∷
     rung 1 (leb (tagEnd s p e) (length s)) ∷
     rung 4 (tagGood s p e) ∷
     rung 7 (isRecord from) ∷
@@ -50,16 +52,16 @@ abbrev pub isTag : Outcome Tag → Bool
 isTag (done t) = goodTag t
 isTag (refused n) = false
 
--- "An ASCII window starts at or after the first covered moment and ends at or before the first moment past the cover": the TAI seconds 441,763,210 and 2,145,916,837
-abbrev pub inCover : Time → Time → Bool
-inCover from to =
-    not (earlier from (record { sec = pos 441763210; ticks = 0 })) && not (earlier (record { sec = pos 2145916837; ticks = 0 }) to)
+-- "An ASCII window starts at or after the first covered moment and ends at or before the first moment past the cover"
+abbrev pub inCover : Table → Time → Time → Bool
+inCover t from to =
+    not (earlier from (record { sec = firstCovered t; ticks = 0 })) && not (earlier (record { sec = pastCover t; ticks = 0 }) to)
 
-abbrev pub listAsciiRungs : List ℕ → Time → Time → List Rung
-listAsciiRungs s from to =
+abbrev pub listAsciiRungs : Table → List ℕ → Time → Time → List Rung
+listAsciiRungs t s from to =
     rung 1 (leb 1 (length s)) ∷
     rung 4 (isTag (formed s)) ∷
     rung 7 (isRecord from) ∷
     rung 7 (isRecord to) ∷
     rung 9 (inOrder from to) ∷
-    rung 5 (inCover from to) ∷ []
+    rung 5 (inCover t from to) ∷ []
