@@ -1,7 +1,7 @@
 pub mod Widths
 pub mod Layouts
-pub mod Times
 pub mod Sources
+pub mod Times
 pub mod Fields
 pub mod Stores
 pub mod Promises

@@ -1,125 +1,72 @@
--- A time to be written: its whole seconds and its units from the epoch, and whether the field holds it.
+-- A time to be written: its whole seconds from the epoch, and whether the field holds them.
 use mathlib.Core.Path.{_≡_, refl, sym, ap, _∙_}
-use mathlib.Core.Bool.{true}
-use Prim.Native.Nat.{ℕ, _+_, _*_, _-_, _/_, _%_, _^_, _<_, _≤_}
-use native.Mathlib.Nat.{mul-comm, mul-div-cancel, div-div-eq-div-mul, div-lt-iff-lt-mul}
+use mathlib.Core.Bool.{Bool, true, false, cond}
+use Prim.Native.Nat.{ℕ, _-_, _^_, _<_, _≤_}
 use native.Mathlib.Omega.{arith}
-use lib.Dec.{lit<}
-use lib.IntN.{ℤ, pos, negsuc, _+ℤ_, _-ℤ_, _*ℤ_}
-use Rattle.base.specs.Parts.{plus, minus, within, floor}
+use lib.IntN.{pos, _+ℤ_, _-ℤ_}
+use Rattle.base.specs.Parts.{plus, minus, within, at}
 use Rattle.base.specs.declared.Seat.the-variants.{In, Out}
 use Rattle.base.proofs.Bools.{cond-yes, cond-no}
-use Rattle.base.proofs.Signed.{same, difference, line, floor-line, apart, within-low, within-high, within-yes, within-under, within-over, times-plus, times-minus}
-use Rattle.scale.specs.Time.{Time, perSecond, worth}
-use Rattle.scale.proofs.Laws.{worth-parts}
-use Rattle.cuc.specs.Cuc.{unit, epochTicks, timeOf, since, holds, countOf}
-use Rattle.cuc.specs.Inner.{Good, seatIn}
+use Rattle.base.proofs.Signed.{same, sum, difference, apart, within-low, within-high, within-yes, within-under, within-over}
+use Rattle.scale.specs.Time.{Time}
+use Rattle.cuc.specs.Cuc.{since, holds}
+use Rattle.cuc.specs.Inner.{seatIn}
 use Rattle.cuc.specs.declared.Layout.{Layout}
-use Rattle.cuc.proofs.Widths.{power-pos, grain, unit-pos, field-ticks, count-units}
-use Rattle.cuc.proofs.Times.{gap-on, since-time, time-is, holds-time}
+use Rattle.cuc.proofs.Widths.{power-pos}
 
--- the ticks from the epoch are the seconds from it and the ticks
-since-is : (l : Layout) (r : Time) → since l r ≡ (r .sec -ℤ l .epoch) *ℤ pos perSecond +ℤ pos (r .ticks)
-since-is l r =
-    same (since l r) ((r .sec -ℤ l .epoch) *ℤ pos perSecond +ℤ pos (r .ticks))
-    (omega (
-      arith,
-      difference (worth r) (epochTicks l),
-      worth-parts r,
-      times-plus (l .epoch) perSecond,
-      times-minus (l .epoch) perSecond,
-      line (r .sec -ℤ l .epoch) perSecond (r .ticks),
-      difference (r .sec) (l .epoch),
-    ))
+module _ (l : Layout) (r : Time) where
+  -- c seconds after the epoch
+  module _ (c : ℕ) (e : l .epoch +ℤ pos c ≡ r .sec) where
+    pub since-is : since l r ≡ pos c
+    since-is = same (since l r) (pos c) (omega (arith, ap plus e, ap minus e, sum (l .epoch) (pos c), difference (r .sec) (l .epoch)))
 
-module _ (l : Layout) (r : Time) (k : r .ticks < perSecond) where
-  pub seconds-is : floor (since l r) perSecond ≡ r .sec -ℤ l .epoch
-  seconds-is = ap (λ (z : ℤ). floor z perSecond) (since-is l r) ∙ floor-line perSecond (r .sec -ℤ l .epoch) (r .ticks) k .0
+    pub held-so : c < 256 ^ l .coarse → holds l r ≡ true
+    unfolding holds
+    held-so h = rw since-is (within-yes (pos 0) (pos (256 ^ l .coarse - 1)) (pos c) (omega arith) (omega arith))
 
-  pub holds-is : holds l r ≡ within (pos 0) (pos (256 ^ l .coarse - 1)) (r .sec -ℤ l .epoch)
-  unfolding holds
-  holds-is = ap (within (pos 0) (pos (256 ^ l .coarse - 1))) seconds-is
+    pub held-over : 256 ^ l .coarse ≤ c → holds l r ≡ false
+    unfolding holds
+    held-over h = rw since-is (within-over (pos 0) (pos (256 ^ l .coarse - 1)) (pos c) (omega (arith, power-pos (l .coarse))))
 
--- whether the field holds it lies in its second alone
-pub holds-second : (l : Layout) (r x : Time) → r .ticks < perSecond → x .ticks < perSecond → x .sec ≡ r .sec → holds l r ≡ holds l x
-holds-second l r x k j e =
-    holds-is l r k ∙ ap (λ (z : ℤ). within (pos 0) (pos (256 ^ l .coarse - 1)) (z -ℤ l .epoch)) (sym e) ∙ sym (holds-is l x j)
-
--- ---- what the code finds
-module _ (l : Layout) (g : Good l) (r : Time) (k : r .ticks < perSecond) where
   -- before the epoch
-  pub out-before : plus (r .sec) + minus (l .epoch) < plus (l .epoch) + minus (r .sec) → Out ≡ seatIn l r
+  pub held-under : (B m n : ℕ) → at B m (l .epoch) → at B n (r .sec) → n < m → holds l r ≡ false
+  unfolding holds
+  held-under B m n p q h = within-under (pos 0) (pos (256 ^ l .coarse - 1)) (since l r) (omega (arith, difference (r .sec) (l .epoch)))
+
+  -- and what is held is that many seconds after the epoch
+  pub held-is : holds l r ≡ true → (l .epoch +ℤ pos (plus (since l r)) ≡ r .sec) × (plus (since l r) < 256 ^ l .coarse)
+  unfolding holds
+  held-is e =
+      let hi = pos (256 ^ l .coarse - 1) in
+      let a = apart (since l r) in
+      let low = within-low (pos 0) hi (since l r) e in
+      let high = within-high (pos 0) hi (since l r) e in (
+        same (l .epoch +ℤ pos (plus (since l r))) (r .sec) (omega (arith, sum (l .epoch) (pos (plus (since l r))), difference (r .sec) (l .epoch))),
+        omega (arith, power-pos (l .coarse)),
+      )
+
+  -- ---- the seat that the code finds
+  pub seat-in : (c : ℕ) → l .epoch +ℤ pos c ≡ r .sec → c < 256 ^ l .coarse → In c ≡ seatIn l r
   unfolding seatIn
-  out-before h =
-      sym (cond-no _ _ (holds-is l r k ∙ within-under (pos 0) (pos (256 ^ l .coarse - 1)) (r .sec -ℤ l .epoch) (omega (arith, difference (r .sec) (l .epoch)))))
+  seat-in c e h = sym (cond-yes _ _ (held-so c e h) ∙ ap (λ z. In (plus z)) (since-is c e))
 
-  module _ (n : ℕ) (e : n + (plus (l .epoch) + minus (r .sec)) ≡ plus (r .sec) + minus (l .epoch)) where
-    -- past the field
-    pub out-after : 256 ^ l .coarse ≤ n → Out ≡ seatIn l r
-    unfolding seatIn
-    out-after h =
-        sym (cond-no _ _ (holds-is l r k ∙ within-over (pos 0) (pos (256 ^ l .coarse - 1)) (r .sec -ℤ l .epoch) (omega (arith, power-pos (l .coarse), difference (r .sec) (l .epoch)))))
+  pub seat-out : holds l r ≡ false → Out ≡ seatIn l r
+  unfolding seatIn
+  seat-out e = sym (cond-no _ _ e)
 
-    counted : countOf l r ≡ n * 256 ^ l .fine + r .ticks / unit (l .fine)
-    unfolding countOf
-    counted =
-        let d : r .sec -ℤ l .epoch ≡ pos n = same (r .sec -ℤ l .epoch) (pos n) (omega (arith, difference (r .sec) (l .epoch))) in
-        let s : since l r ≡ pos (n * perSecond + r .ticks) = since-is l r ∙ ap (λ (z : ℤ). z *ℤ pos perSecond +ℤ pos (r .ticks)) d in
-        rw s (count-units (l .fine) (g .short) n (r .ticks))
+  -- and what it tells
+  pub told-in : (c : ℕ) → seatIn l r ≡ In c → (holds l r ≡ true) × (plus (since l r) ≡ c)
+  unfolding seatIn
+  told-in c e = go (holds l r) refl e
+    where
+      go : (b : Bool) → holds l r ≡ b → cond b (In (plus (since l r))) Out ≡ In c → (holds l r ≡ true) × (plus (since l r) ≡ c)
+      go true f e = (f, cc)
+      go false f e = let a : _≡_ {A = ℕ} 0 1 = cc in absurd (omega arith)
 
-    pub in-field : n < 256 ^ l .coarse → In (n * 256 ^ l .fine + r .ticks / unit (l .fine)) ≡ seatIn l r
-    unfolding seatIn
-    in-field h =
-        sym (cond-yes _ _ (holds-is l r k ∙ within-yes (pos 0) (pos (256 ^ l .coarse - 1)) (r .sec -ℤ l .epoch) (omega (arith, difference (r .sec) (l .epoch), apart (r .sec -ℤ l .epoch))) (omega (arith, difference (r .sec) (l .epoch))))
-        ∙ ap In counted)
-
--- ---- a time that the field holds is not before the epoch
-floor-pos : (z : ℤ) (k : ℕ) (hi : ℤ) → within (pos 0) hi (floor z k) ≡ true → z ≡ pos (plus z)
-floor-pos (pos n) k hi h = refl
-floor-pos (negsuc n) k hi h = absurd (omega (arith, within-low (pos 0) hi (negsuc (n / k)) h))
-
--- the ticks from the epoch to a time that is not before it
-abbrev pub ticksFrom : Layout → Time → ℕ
-ticksFrom l r = plus (since l r)
-
-module _ (l : Layout) (r : Time) (h : holds l r ≡ true) where
-  since-pos : since l r ≡ pos (ticksFrom l r)
-  unfolding holds
-  since-pos = floor-pos (since l r) perSecond (pos (256 ^ l .coarse - 1)) h
-
-  pub worth-source : worth r ≡ epochTicks l +ℤ pos (ticksFrom l r)
-  worth-source = gap-on (epochTicks l) (worth r) (ticksFrom l r) since-pos
-
-  pub seconds-source : floor (since l r) perSecond ≡ pos (ticksFrom l r / perSecond)
-  seconds-source = ap (λ (z : ℤ). floor z perSecond) since-pos
-
-  pub count-source : countOf l r ≡ ticksFrom l r / unit (l .fine)
-  unfolding countOf
-  count-source = ap (λ (z : ℤ). plus (floor z (unit (l .fine)))) since-pos
-
-  source-lt : ticksFrom l r < 256 ^ l .coarse * perSecond
-  unfolding holds
-  source-lt =
-      div-lt-iff-lt-mul (lit< tt) .0
-      (let b : ticksFrom l r / perSecond < 256 ^ l .coarse = omega (arith, power-pos (l .coarse), within-high (pos 0) (pos (256 ^ l .coarse - 1)) (pos (ticksFrom l r / perSecond)) (rw seconds-source at h)) in b)
-
-  -- its count fits the field, and names a time of the same second
-  module _ (g : Good l) where
-    pub count-lt : countOf l r < 256 ^ (l .coarse + l .fine)
-    count-lt = rw count-source (div-lt-iff-lt-mul (unit-pos (l .fine) (g .short)) .1 (rw (field-ticks (l .fine) (g .short) (l .coarse)) source-lt))
-
-    pub same-second : r .ticks < perSecond → timeOf l (countOf l r) .sec ≡ r .sec
-    same-second k =
-        let f = l .fine in
-        let c = countOf l r in
-        let q : c / 256 ^ f ≡ ticksFrom l r / perSecond = rw (count-source, div-div-eq-div-mul, mul-comm (unit f) (256 ^ f), grain f (g .short) .1) in
-        let d : r .sec -ℤ l .epoch ≡ pos (c / 256 ^ f) = sym (seconds-is l r k) ∙ seconds-source ∙ ap pos (sym q) in
-        ap (λ (t : Time). t .sec)
-        (time-is l g c (record { sec = r .sec; ticks = c % 256 ^ f * unit f }) (omega (arith, difference (r .sec) (l .epoch), ap plus d, ap minus d)) refl)
-
--- the count of a time that a count names
-pub count-time : (l : Layout) (g : Good l) (t : ℕ) → t < 256 ^ (l .coarse + l .fine) → countOf l (timeOf l t) ≡ t
-count-time l g t lt =
-    count-source l (timeOf l t) (holds-time l g t lt)
-    ∙ ap (λ (z : ℤ). plus z / unit (l .fine)) (since-time l t)
-    ∙ mul-div-cancel t (unit-pos (l .fine) (g .short))
+  pub told-out : seatIn l r ≡ Out → holds l r ≡ false
+  unfolding seatIn
+  told-out e = go (holds l r) refl e
+    where
+      go : (b : Bool) → holds l r ≡ b → cond b (In (plus (since l r))) Out ≡ Out → holds l r ≡ false
+      go true f e = let a : _≡_ {A = ℕ} 0 1 = cc in absurd (omega arith)
+      go false f e = f

@@ -1,73 +1,84 @@
--- The time that a count names: its parts, and back to the count.
-use mathlib.Core.Path.{_≡_, refl, ap, _∙_}
-use mathlib.Core.Bool.{true}
-use Prim.Native.Nat.{ℕ, _+_, _*_, _-_, _/_, _%_, _^_, _<_, _≤_}
-use native.Mathlib.Nat.{mul-lt-mul-of-pos-right, div-lt-iff-lt-mul}
+-- The times that two counts name: they are records, and stand in the order of their ticks from the epoch. Of a time that is written, the latest of them that is not after it.
+use mathlib.Core.Path.{_≡_, refl, sym, ap, _∙_}
+use mathlib.Core.Bool.{Bool, true, false}
+use Prim.Native.Nat.{ℕ, _+_, _*_, _/_, _^_, _<_, _≤_}
+use native.Mathlib.Nat.{add-mul, mul-assoc}
 use native.Mathlib.Omega.{arith}
-use lib.Dec.{lit<}
-use lib.IntN.{ℤ, pos, _+ℤ_, _-ℤ_}
-use lib.Pow.{pow-add}
-use lib.Signed.{leZ}
+use borrow.Author.Tests.{ltb-true, ltb-false}
+use lib.Dec.{ltb}
+use lib.IntN.{ℤ, pos, _+ℤ_, _*ℤ_}
 use Rattle.base.specs.Parts.{plus, minus}
-use Rattle.base.proofs.Signed.{same, sum, difference, line, apart, rest-lt, le-so, le-yes, within-yes}
+use Rattle.base.proofs.Signed.{same, sum, line, apart, le-so, le-yes}
 use Rattle.scale.specs.Time.{Time, perSecond, worth, isRecord}
-use Rattle.scale.proofs.Laws.{worth-parts, worth-one, worth-ofTicks, within-good}
-use Rattle.cuc.specs.Cuc.{unit, epochTicks, timeOf, since, holds}
+use Rattle.scale.specs.Latest.{NotAfter}
+use Rattle.scale.proofs.Fractions.{ticks-lt, part-lt, part-le, part-most}
+use Rattle.scale.proofs.Laws.{worth-parts, within-good}
+use Rattle.cuc.specs.Cuc.{unit, timeOf, since, holds, partsOf}
 use Rattle.cuc.specs.Inner.{Good}
 use Rattle.cuc.specs.declared.Layout.{Layout}
-use Rattle.cuc.proofs.Widths.{power-pos, power-le, unit-pos, units, part-lt, field-ticks}
+use Rattle.cuc.proofs.Widths.{power-le, grain}
+use Rattle.cuc.proofs.Sources.{held-is}
 
--- ---- lengths from one start
-pub gap-back : (e : ℤ) (n : ℕ) → (e +ℤ pos n) -ℤ e ≡ pos n
-gap-back e n = same ((e +ℤ pos n) -ℤ e) (pos n) (omega (arith, difference (e +ℤ pos n) e, sum e (pos n)))
+-- ---- a time of two counts
+-- by its seconds and its ticks
+pub time-is : (l : Layout) (c f : ℕ) (r : Time) → plus (r .sec) + minus (l .epoch) ≡ minus (r .sec) + (plus (l .epoch) + c) → r .ticks ≡ f * unit (l .fine) → timeOf l c f ≡ r
+time-is l c f r s t =
+    let e : l .epoch +ℤ pos c ≡ r .sec = same (l .epoch +ℤ pos c) (r .sec) (omega (arith, sum (l .epoch) (pos c))) in
+    λ i. record { sec = e i; ticks = sym t i }
 
-pub gap-on : (e z : ℤ) (n : ℕ) → z -ℤ e ≡ pos n → z ≡ e +ℤ pos n
-gap-on e z n h = same z (e +ℤ pos n) (omega (arith, difference z e, sum e (pos n), ap plus h, ap minus h))
+module _ (l : Layout) (g : Good l) (c f : ℕ) where
+  pub valid-time : c < 256 ^ l .coarse → f < 256 ^ l .fine → isRecord (timeOf l c f) ≡ true
+  valid-time h k =
+      let near = apart (l .epoch +ℤ pos c) in
+      let q : c < 2 ^ 32 = omega (arith, power-le (l .coarse) 4 (g .narrow)) in
+      let s = sum (l .epoch) (pos c) in
+      within-good (2 ^ 41) (timeOf l c f) (record { low = omega (arith, near); high = omega (arith, near); below = ticks-lt (grain (l .fine) (g .short)) f k })
 
-pub line-le : (e : ℤ) (a b : ℕ) → a ≤ b → leZ (e +ℤ pos a) (e +ℤ pos b) ≡ true
-line-le e a b h = le-so (e +ℤ pos a) (e +ℤ pos b) (omega (arith, sum e (pos a), sum e (pos b)))
+  -- the one count of both is in parts
+  pub worth-time : worth (timeOf l c f) ≡ l .epoch *ℤ pos perSecond +ℤ pos ((c * 256 ^ l .fine + f) * unit (l .fine))
+  worth-time =
+      let u = unit (l .fine) in
+      let e : (c * 256 ^ l .fine + f) * u ≡ c * perSecond + f * u = add-mul (c * 256 ^ l .fine) f u ∙ ap (λ (n : ℕ). n + f * u) (mul-assoc c (256 ^ l .fine) u ∙ ap (λ (n : ℕ). c * n) (grain (l .fine) (g .short) .all)) in
+      same (worth (timeOf l c f)) (l .epoch *ℤ pos perSecond +ℤ pos ((c * 256 ^ l .fine + f) * u))
+      (omega (arith, e, worth-parts (timeOf l c f), sum (l .epoch) (pos c), line (l .epoch) perSecond ((c * 256 ^ l .fine + f) * u)))
 
-pub line-le-is : (e : ℤ) (a b : ℕ) → leZ (e +ℤ pos a) (e +ℤ pos b) ≡ true → a ≤ b
-line-le-is e a b h = omega (arith, le-yes (e +ℤ pos a) (e +ℤ pos b) h, sum e (pos a), sum e (pos b))
+-- ---- the order of times, by their seconds from one epoch
+module _ (e : ℤ) (x y : Time) (a b : ℕ) (p : e +ℤ pos a ≡ x .sec) (q : e +ℤ pos b ≡ y .sec) where
+  pub not-after : a * perSecond + x .ticks ≤ b * perSecond + y .ticks → NotAfter x y
+  not-after h =
+      le-so (worth x) (worth y)
+      (omega (arith, ap plus p, ap minus p, ap plus q, ap minus q, worth-parts x, worth-parts y, sum e (pos a), sum e (pos b)))
 
--- ---- a count's time
-module _ (l : Layout) (t : ℕ) where
-  pub worth-time : worth (timeOf l t) ≡ epochTicks l +ℤ pos (t * unit (l .fine))
-  unfolding timeOf
-  worth-time = worth-ofTicks _
+  pub not-after-is : NotAfter x y → a * perSecond + x .ticks ≤ b * perSecond + y .ticks
+  not-after-is h =
+      omega (arith, le-yes (worth x) (worth y) h, ap plus p, ap minus p, ap plus q, ap minus q, worth-parts x, worth-parts y, sum e (pos a), sum e (pos b))
 
-  ticks-lt : timeOf l t .ticks < perSecond
-  unfolding timeOf
-  ticks-lt = rest-lt (epochTicks l +ℤ pos (t * unit (l .fine))) (lit< tt)
+-- ---- a time that is written: the same second, and the whole parts of its ticks
+abbrev pub floored : Layout → Time → Time
+floored l r = timeOf l (plus (since l r)) (partsOf l r)
 
-  pub since-time : since l (timeOf l t) ≡ pos (t * unit (l .fine))
-  since-time = ap (λ (z : ℤ). z -ℤ epochTicks l) worth-time ∙ gap-back (epochTicks l) (t * unit (l .fine))
+module _ (l : Layout) (r : Time) (h : holds l r ≡ true) where
+  pub same-second : floored l r .sec ≡ r .sec
+  same-second = held-is l r h .0
 
-module _ (l : Layout) (g : Good l) (t : ℕ) where
-  -- its seconds and its ticks
-  pub time-is : (r : Time) → plus (r .sec) + minus (l .epoch) ≡ minus (r .sec) + (plus (l .epoch) + t / 256 ^ l .fine) → r .ticks ≡ t % 256 ^ l .fine * unit (l .fine) → timeOf l t ≡ r
-  time-is r s k =
-      worth-one (timeOf l t) r (ticks-lt l t) (rw k (part-lt (l .fine) (g .short) t))
-      (worth-time l t
-      ∙ same (epochTicks l +ℤ pos (t * unit (l .fine))) (worth r)
-      (omega (arith, line (l .epoch) perSecond (t * unit (l .fine)), worth-parts r, units (l .fine) (g .short) t)))
+  module _ (g : Good l) where
+    pub floored-before : NotAfter (floored l r) r
+    floored-before =
+        let c = plus (since l r) in
+        not-after (l .epoch) (floored l r) r c c refl same-second (omega (arith, part-le (grain (l .fine) (g .short)) (r .ticks)))
 
-module _ (l : Layout) (g : Good l) (t : ℕ) (lt : t < 256 ^ (l .coarse + l .fine)) where
-  pub seconds-lt : t / 256 ^ l .fine < 256 ^ l .coarse
-  seconds-lt = div-lt-iff-lt-mul (power-pos (l .fine)) .1 (rw pow-add at lt)
+    -- an earlier second is earlier whatever its parts, and in the same second whole parts reach no further
+    pub floored-latest : r .ticks < perSecond → (c f : ℕ) → f < 256 ^ l .fine → NotAfter (timeOf l c f) r → NotAfter (timeOf l c f) (floored l r)
+    floored-latest low c f k n = not-after (l .epoch) (timeOf l c f) (floored l r) c d refl refl (go (ltb c d) refl)
+      where
+        d : ℕ
+        d = plus (since l r)
 
-  pub valid-time : isRecord (timeOf l t) ≡ true
-  valid-time =
-      let r : Time = record { sec = l .epoch +ℤ pos (t / 256 ^ l .fine); ticks = t % 256 ^ l .fine * unit (l .fine) } in
-      let s = sum (l .epoch) (pos (t / 256 ^ l .fine)) in
-      let q : t / 256 ^ l .fine < 2 ^ 32 = omega (arith, seconds-lt, power-le (l .coarse) 4 (g .narrow)) in
-      let near = apart (l .epoch +ℤ pos (t / 256 ^ l .fine)) in
-      ap isRecord (time-is l g t r (omega arith) refl)
-      ∙ within-good (2 ^ 41) r (record { low = omega (arith, near); high = omega (arith, near); below = part-lt (l .fine) (g .short) t })
+        i : c * perSecond + f * unit (l .fine) ≤ d * perSecond + r .ticks
+        i = not-after-is (l .epoch) (timeOf l c f) r c d refl same-second n
 
-  pub holds-time : holds l (timeOf l t) ≡ true
-  unfolding holds
-  holds-time =
-      let u = t * unit (l .fine) in
-      let b : u / perSecond < 256 ^ l .coarse = div-lt-iff-lt-mul (lit< tt) .1 (rw (field-ticks (l .fine) (g .short) (l .coarse)) at (mul-lt-mul-of-pos-right lt (unit-pos (l .fine) (g .short)))) in
-      rw (since-time l t) (within-yes (pos 0) (pos (256 ^ l .coarse - 1)) (pos (u / perSecond)) (omega arith) (omega arith))
+        go : (b : Bool) → ltb c d ≡ b → c * perSecond + f * unit (l .fine) ≤ d * perSecond + partsOf l r * unit (l .fine)
+        go true e = omega (arith, ltb-true c d e, ticks-lt (grain (l .fine) (g .short)) f k)
+        go false e =
+            let z : c ≡ d = omega (arith, ltb-false c d e, i, low) in
+            omega (arith, z, part-most (grain (l .fine) (g .short)) (r .ticks) f (let j : f * unit (l .fine) ≤ r .ticks = omega (arith, z, i) in j))

@@ -1,13 +1,14 @@
 -- The T-field of CUC (document 01, "The codes"): which layouts there are, what moment a field names, and what bytes a moment is written as.
 use mathlib.Core.Path.{_≡_}
 use mathlib.Core.Bool.{Bool, cond, _&&_}
-use mathlib.Core.List.{List}
+use mathlib.Core.List.{List, _++_}
 use Prim.Native.Nat.{ℕ, _+_, _-_, _*_, _/_, _^_}
 use lib.Dec.{leb}
-use lib.IntN.{ℤ, pos, negℤ, _+ℤ_, _-ℤ_, _*ℤ_}
-use Rattle.base.specs.Outcome.{Outcome, done, need, given}
-use Rattle.base.specs.Parts.{plus, within, floor}
-use Rattle.scale.specs.Time.{Time, perSecond, worth, ofTicks, isRecord}
+use lib.IntN.{ℤ, pos, negℤ, _+ℤ_, _-ℤ_}
+use lib.ListN.{length}
+use Rattle.base.specs.Outcome.{Outcome, done, need, andThen, given}
+use Rattle.base.specs.Parts.{plus, within}
+use Rattle.scale.specs.Time.{Time, perSecond, isRecord}
 use Rattle.octets.specs.Places.{octets}
 use Rattle.octets.specs.Counts.{countAt}
 use Rattle.octets.specs.Writes.{saysCounted}
@@ -32,45 +33,51 @@ settled l x = need (isWidth l) 3 (need (isEpoch (l .epoch)) 7 x)
 unfoldable pub width : Layout → ℕ
 width l = cond (isWidth l) (l .coarse + l .fine) 0
 
--- the ticks of one unit of the count, which is 256^-f seconds
-unfoldable pub unit : ℕ → ℕ
+-- the ticks of one part of a second, which is 256^-f seconds
+abbrev pub unit : ℕ → ℕ
 unit f = perSecond / 256 ^ f
 
--- the epoch, in ticks
-abbrev pub epochTicks : Layout → ℤ
-epochTicks l = l .epoch *ℤ pos perSecond
-
 -- ---- reading
+-- the time that is c whole seconds and f parts of a second after the epoch
+abbrev pub timeOf : Layout → ℕ → ℕ → Time
+timeOf l c f = record { sec = l .epoch +ℤ pos c; ticks = f * unit (l .fine) }
 
--- "Big-endian count from the epoch": the time that is worth t units more than the epoch
-unfoldable pub timeOf : Layout → ℕ → Time
-timeOf l t = ofTicks (epochTicks l +ℤ pos (t * unit (l .fine)))
-
--- the moment that the T-field from `at` on names; "Order when reading: .. 3, epoch 7 .., short T 1"
+-- "Big-endian count from the epoch": the coarse octets from `at` on count the seconds, the fine ones after them the parts; "Order when reading: .. 3, epoch 7 .., short T 1"
 unfoldable pub field : List ℕ → ℕ → Layout → Outcome Time
-field s at l = settled l (given (timeOf l) (saysCounted (countAt s at (width l))))
+field s at l =
+    settled l
+    (need (leb (at + width l) (length s)) 1
+    (andThen (saysCounted (countAt s at (l .coarse))) (λ c.
+    given (timeOf l c) (saysCounted (countAt s (at + l .coarse) (l .fine))))))
 
 -- the times that T-fields of a layout read to
 abbrev pub Reads : Layout → Time → Type 0
 Reads l x = (s : List ℕ) × (field s 0 l ≡ done x)
 
 -- ---- writing
-
--- the ticks from the epoch to a time
+-- the whole seconds from the epoch to a time, downward: its ticks are above them
 abbrev pub since : Layout → Time → ℤ
-since l t = worth t -ℤ epochTicks l
+since l t = t .sec -ℤ l .epoch
 
 -- "A target holds a source when its count of whole seconds from the epoch, taken downward (CUC), .. is not negative and fits the field"
 unfoldable pub holds : Layout → Time → Bool
-holds l t = within (pos 0) (pos (256 ^ l .coarse - 1)) (floor (since l t) perSecond)
+holds l t = within (pos 0) (pos (256 ^ l .coarse - 1)) (since l t)
 
--- the count of a time, in whole units from the epoch: "The writer takes the fraction downward"
-unfoldable pub countOf : Layout → Time → ℕ
-countOf l t = plus (floor (since l t) (unit (l .fine)))
+-- "The writer takes the fraction downward": the whole parts in a time's ticks
+abbrev pub partsOf : Layout → Time → ℕ
+partsOf l t = t .ticks / unit (l .fine)
 
--- the T-field of a time; "Writing: record 7, then .. 3, epoch 7, .. target 7"
+-- a T-field of its two counts
+unfoldable pub laid : Layout → ℕ → ℕ → List ℕ
+laid l c f = octets (l .coarse) c ++ octets (l .fine) f
+
+-- the T-field of a time
+abbrev pub coded : Layout → Time → List ℕ
+coded l t = laid l (plus (since l t)) (partsOf l t)
+
+-- "Writing: record 7, then .. 3, epoch 7, .. target 7"
 unfoldable pub bytesOf : Layout → Time → Outcome (List ℕ)
-bytesOf l t = need (isRecord t) 7 (settled l (need (holds l t) 7 (done (octets (width l) (countOf l t)))))
+bytesOf l t = need (isRecord t) 7 (settled l (need (holds l t) 7 (done (coded l t))))
 
 -- the target has the second of a source, by the times that its T-fields read to
 abbrev pub Holds : Layout → Time → Type 0

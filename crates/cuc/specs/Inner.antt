@@ -5,7 +5,7 @@ use Rattle.base.specs.Parts.{plus, minus}
 use Rattle.base.specs.declared.Seat.{Seat}
 use Rattle.base.specs.declared.Seat.the-variants.{In, Out}
 use Rattle.scale.specs.Time.{Time}
-use Rattle.cuc.specs.Cuc.{holds, countOf}
+use Rattle.cuc.specs.Cuc.{since, holds}
 use Rattle.cuc.specs.declared.Layout.{Layout}
 
 -- a layout that there is, of its parts
@@ -16,6 +16,6 @@ pub record Good (l : Layout) : Type 0 where
   pub low : minus (l .epoch) ≤ 2 ^ 40
   pub high : plus (l .epoch) < 2 ^ 40
 
--- the count of a time, where the field holds it
+-- the whole seconds of a time from the epoch on, where the field holds it
 unfoldable pub seatIn : Layout → Time → Seat
-seatIn l t = cond (holds l t) (In (countOf l t)) Out
+seatIn l t = cond (holds l t) (In (plus (since l t))) Out

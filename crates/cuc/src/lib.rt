@@ -1,4 +1,5 @@
-// The T-field of CUC, the unsegmented binary time code: a big-endian count from an epoch, read and written.
+// The T-field of CUC, the unsegmented binary time code: a big-endian count from an epoch, read and written. Its coarse
+// octets count whole seconds and its fine ones parts of a second: two counts, each of which fits a u64.
 use base::Refusal;
 use base::Seat;
 use octets::Counted;
@@ -6,12 +7,16 @@ use octets::Written;
 use scale::Record;
 use scale::RecordAnswer;
 ghost use mathlib.Core.Path.{_≡_};
-ghost use Prim.Native.Nat.{_+_, _<_, _^_};
+ghost use mathlib.Core.Bool.{true};
+ghost use Prim.Native.Nat.{_+_, _<_, _≤_, _^_};
+ghost use lib.ListN.{length};
 ghost use Rattle.base.specs.Outcome.{andThen};
+ghost use Rattle.scale.specs.Time.{isRecord};
 ghost use Rattle.scale.specs.Answers.{recorded, saysRecord};
-ghost use Rattle.scale.specs.Inner.{Within};
+ghost use Rattle.octets.specs.Counts.{countAt};
 ghost use Rattle.octets.specs.Writes.{roomed, Wrote};
-ghost use Rattle.cuc.specs.Cuc.{isEpoch, isWidth, width, timeOf, field, bytesOf};
+ghost use Rattle.octets.specs.declared.Counted.the-variants as Counted;
+ghost use Rattle.cuc.specs.Cuc.{isEpoch, isWidth, isLayout, width, unit, timeOf, field, laid, bytesOf};
 ghost use Rattle.cuc.specs.Inner.{Good, seatIn};
 
 // The epoch that a count is from, in whole TAI seconds, and the octets of its whole seconds and of its fraction.
@@ -46,13 +51,16 @@ pub fn read(s: &[u8], at: usize, l: Layout) -> RecordAnswer
     if !is_epoch(epoch) {
         return RecordAnswer::Refused(Refusal::Range);
     }
-    let w = size(l);
-    let counted = octets::count(s, at, w);
-    match counted {
-        Counted::Done(t) => RecordAnswer::Done(moment(l, t)),
-        Counted::Bad => RecordAnswer::Refused(Refusal::Field),
-        Counted::Out => RecordAnswer::Refused(Refusal::Short),
+    let coarse = l.coarse;
+    let fine = l.fine;
+    let w = coarse + fine;
+    let len = s.len();
+    if !octets::fits(len, at, w) {
+        return RecordAnswer::Refused(Refusal::Short);
     }
+    let c = number(s, at, coarse);
+    let f = number(s, at + coarse, fine);
+    RecordAnswer::Done(moment(l, c, f))
 }
 
 // Writes the T-field of a moment from `at` on, its fraction taken downward.
@@ -69,18 +77,7 @@ pub fn write(r: Record, l: Layout, out: &mut [u8], at: usize) -> Written
     if !is_epoch(epoch) {
         return Written::Refused(Refusal::Range);
     }
-    let seat = reckon(r, l);
-    match seat {
-        Seat::Out => Written::Refused(Refusal::Range),
-        Seat::In(n) => {
-            let w = size(l);
-            if octets::put_count(out, at, w, n) {
-                let end = at + w;
-                return Written::Done(end);
-            }
-            Written::Refused(Refusal::Room)
-        }
-    }
+    put(r, l, out, at)
 }
 
 // Whether a P octet gives so many octets.
@@ -90,38 +87,89 @@ fn is_width(l: Layout) -> bool
     (1 <= l.coarse) & ((l.coarse <= 4) & (l.fine <= 3))
 }
 
-// The moment that a count names.
-fn moment(l: Layout, t: u64) -> Record
-    requires { ⌜ Good l × (t < 256 ^ (l .coarse + l .fine)) ⌝ }
-    ensures { λ r. ⌜ recorded r ≡ timeOf l t ⌝ }
+// The number in w octets that are there: a slice's bytes are octets, so the other answers don't come.
+fn number(s: &[u8], at: usize, w: usize) -> u64
+    requires { ⌜ (w ≤ 8) × (at + w ≤ length (now s)) ⌝ }
+    ensures { λ r. ⌜ countAt (now (s .entry)) at w ≡ Counted.Done r ⌝ }
 {
-    let epoch = l.epoch;
-    // the units of a second
-    let second = octets::power256(l.fine);
-    let start = base::raised(epoch);
-    let ticks = t % second * (Record::TICKS / second);
-    Record::lowered(start + t / second, ticks)
+    match octets::count(s, at, w) {
+        Counted::Done(n) => n,
+        Counted::Bad => 0,
+        Counted::Out => 0,
+    }
 }
 
-// The count of a moment, where the field holds it.
-fn reckon(r: Record, l: Layout) -> Seat
-    requires { ⌜ Within (2 ^ 41) (recorded r) × Good l ⌝ }
+// The ticks of one part of a second.
+fn unit(fine: usize) -> u64
+    requires { ⌜ fine ≤ 3 ⌝ }
+    ensures { λ r. ⌜ r ≡ unit fine ⌝ }
+{
+    let many = octets::power256(fine);
+    Record::TICKS / many
+}
+
+// The moment c whole seconds and f parts of a second after the epoch.
+fn moment(l: Layout, c: u64, f: u64) -> Record
+    requires { ⌜ Good l × (c < 256 ^ l .coarse) × (f < 256 ^ l .fine) ⌝ }
+    ensures { λ r. ⌜ recorded r ≡ timeOf l c f ⌝ }
+{
+    let epoch = l.epoch;
+    let fine = l.fine;
+    let start = base::raised(epoch);
+    let ticks = f * unit(fine);
+    Record::lowered(start + c, ticks)
+}
+
+// The whole seconds of a moment from the epoch on, where the field holds them.
+fn seat_of(r: Record, l: Layout) -> Seat
+    requires { ⌜ Good l ⌝ }
     ensures { λ a. ⌜ a ≡ seatIn l (recorded r) ⌝ }
 {
     let epoch = l.epoch;
+    let coarse = l.coarse;
     let from = base::raised(epoch);
     let to = r.raised();
     if to < from {
         return Seat::Out;
     }
     let whole = to - from;
-    let most = octets::power256(l.coarse);
+    let most = octets::power256(coarse);
     if most <= whole {
         return Seat::Out;
     }
-    // the units of a second, and the ticks of a unit
-    let units = octets::power256(l.fine);
-    let unit = Record::TICKS / units;
-    let part = r.ticks / unit;
-    Seat::In(whole * units + part)
+    Seat::In(whole)
+}
+
+// Stores the T-field of a moment, where the field holds its second.
+fn put(r: Record, l: Layout, out: &mut [u8], at: usize) -> Written
+    requires { ⌜ (isLayout l ≡ true) × (isRecord (recorded r) ≡ true) ⌝ }
+    ensures { λ a. ⌜ Wrote (andThen (bytesOf l (recorded r)) (roomed (now (out .entry)) at)) at (now (out .entry)) (now (out .exit)) a ⌝ }
+{
+    let fine = l.fine;
+    let ticks = r.ticks;
+    match seat_of(r, l) {
+        Seat::Out => Written::Refused(Refusal::Range),
+        Seat::In(whole) => {
+            let parts = ticks / unit(fine);
+            store(l, whole, parts, out, at)
+        }
+    }
+}
+
+// Stores a T-field of its two counts where there is room.
+fn store(l: Layout, c: u64, f: u64, out: &mut [u8], at: usize) -> Written
+    requires { ⌜ Good l ⌝ }
+    ensures { λ a. ⌜ Wrote (roomed (now (out .entry)) at (laid l c f)) at (now (out .entry)) (now (out .exit)) a ⌝ }
+{
+    let coarse = l.coarse;
+    let fine = l.fine;
+    let w = coarse + fine;
+    let len = out.len();
+    if !octets::fits(len, at, w) {
+        return Written::Refused(Refusal::Room);
+    }
+    let end = at + w;
+    octets::put_count(out, at, coarse, c);
+    octets::put_count(out, at + coarse, fine, f);
+    Written::Done(end)
 }

@@ -1,7 +1,7 @@
 -- What a CUC tag names: by its worth, by its seconds, on the axis of raised seconds, and by the octets that it has of them.
 use mathlib.Core.Bool.{true}
 use mathlib.Core.Logic.{_↔_}
-use mathlib.Core.Path.{_≡_, refl, sym, ap, _∙_}
+use mathlib.Core.Path.{_≡_, sym, ap, _∙_}
 use Prim.Native.Nat.{ℕ, _+_, _*_, _-_, _/_, _%_, _^_, _<_, _≤_}
 use native.Mathlib.Nat.{div-add-mod'}
 use native.Mathlib.Omega.{arith}
@@ -10,15 +10,15 @@ use lib.IntN.{ℤ, pos, _+ℤ_}
 use Rattle.base.specs.Parts.{plus, minus}
 use Rattle.base.proofs.Signed.{same, sum, apart}
 use Rattle.scale.specs.Time.{Time, perSecond, worth}
+use Rattle.scale.proofs.Fractions.{ticks-lt}
 use Rattle.scale.proofs.Laws.{worth-parts}
 use Rattle.window.specs.Seconds.{raisedBy}
 use Rattle.counter.specs.Counter.{names}
 use Rattle.counter.proofs.Laws.{named-at, named-is}
-use Rattle.cuc.specs.Cuc.{timeOf, unit}
+use Rattle.cuc.specs.Cuc.{timeOf}
 use Rattle.cuc.specs.Inner.{Good}
 use Rattle.cuc.specs.declared.Layout as U
-use Rattle.cuc.proofs.Times.{time-is, seconds-lt}
-use Rattle.cuc.proofs.Widths.{part-lt}
+use Rattle.cuc.proofs.Widths.{grain}
 use Rattle.tags.specs.CucTag.{Periodic, Names, CutTo}
 
 -- ---- by the seconds: the ticks are the first one's
@@ -68,50 +68,35 @@ module _ (B : ℕ) (g : Periodic) (m : Time) (f : minus (g .first .sec) ≤ B) w
       (ap (names b (g .period)) h ∙ named-at b (g .period) k, t)
 
 -- ---- by the octets of the layout: cut to them, the seconds from the epoch are the tag's
-module _ (l : U.Layout) (g : Good l) (t : ℕ) (lt : t < 256 ^ (l .coarse + l .fine)) (m : Time) where
+module _ (l : U.Layout) (g : Good l) (c f : ℕ) (m : Time) where
   abbrev tag : Periodic
-  tag = record { first = timeOf l t; period = 256 ^ l .coarse }
+  tag = record { first = timeOf l c f; period = 256 ^ l .coarse }
 
-  -- the parts of epoch + T
-  abbrev parts : Time
-  parts = record { sec = l .epoch +ℤ pos (t / 256 ^ l .fine); ticks = t % 256 ^ l .fine * unit (l .fine) }
-
-  first-is : timeOf l t ≡ parts
-  first-is = time-is l g t parts (omega (arith, sum (l .epoch) (pos (t / 256 ^ l .fine)))) refl
-
-  first-sec : timeOf l t .sec ≡ l .epoch +ℤ pos (t / 256 ^ l .fine)
-  first-sec = ap (λ (r : Time). r .sec) first-is
-
-  first-ticks : timeOf l t .ticks ≡ t % 256 ^ l .fine * unit (l .fine)
-  first-ticks = ap (λ (r : Time). r .ticks) first-is
-
-  follows-cut : Follows tag m → CutTo l t m
-  follows-cut (k, (e, j)) =
-      let d = t / 256 ^ l .fine in
+  follows-cut : c < 256 ^ l .coarse → Follows tag m → CutTo l c f m
+  follows-cut h (k, (e, t)) =
       let n = k * 256 ^ l .coarse in (
-        n + d,
+        n + c,
         (
-          same (m .sec) (l .epoch +ℤ pos (n + d)) (omega (arith, ap plus (e ∙ ap (λ (z : ℤ). z +ℤ pos n) first-sec), ap minus (e ∙ ap (λ (z : ℤ). z +ℤ pos n) first-sec), sum (l .epoch) (pos d), sum (l .epoch +ℤ pos d) (pos n), sum (l .epoch) (pos (n + d)))),
-          digits-mod k (seconds-lt l g t lt),
-          j ∙ first-ticks,
+          same (m .sec) (l .epoch +ℤ pos (n + c)) (omega (arith, ap plus e, ap minus e, sum (l .epoch) (pos c), sum (l .epoch +ℤ pos c) (pos n), sum (l .epoch) (pos (n + c)))),
+          digits-mod k h,
+          t,
         ),
       )
 
-  cut-follows : CutTo l t m → Follows tag m
-  cut-follows (n, (e, c, j)) =
-      let d = t / 256 ^ l .fine in
+  cut-follows : CutTo l c f m → Follows tag m
+  cut-follows (n, (e, i, t)) =
       let k = n / 256 ^ l .coarse in
-      let f : n ≡ k * 256 ^ l .coarse + d = sym (div-add-mod' n (256 ^ l .coarse)) ∙ ap (λ (r : ℕ). k * 256 ^ l .coarse + r) c in (
+      let d : n ≡ k * 256 ^ l .coarse + c = sym (div-add-mod' n (256 ^ l .coarse)) ∙ ap (λ (r : ℕ). k * 256 ^ l .coarse + r) i in (
         k,
         (
-          rw first-sec (same (m .sec) (l .epoch +ℤ pos d +ℤ pos (k * 256 ^ l .coarse)) (omega (arith, ap plus e, ap minus e, sum (l .epoch) (pos n), sum (l .epoch) (pos d), sum (l .epoch +ℤ pos d) (pos (k * 256 ^ l .coarse))))),
-          j ∙ sym first-ticks,
+          same (m .sec) (l .epoch +ℤ pos c +ℤ pos (k * 256 ^ l .coarse)) (omega (arith, ap plus e, ap minus e, sum (l .epoch) (pos n), sum (l .epoch) (pos c), sum (l .epoch +ℤ pos c) (pos (k * 256 ^ l .coarse)))),
+          t,
         ),
       )
 
   -- the tag names m exactly when m is at or after the epoch, has the tag's ticks, and its seconds from the epoch, cut to the coarse octets, are the tag's
-  pub names-cut : m .ticks < perSecond → Names tag m ↔ CutTo l t m
-  names-cut low = (
-    λ n. follows-cut (named-follows tag m low (rw first-ticks (part-lt (l .fine) (g .short) t)) n),
-    λ c. follows-named tag m (cut-follows c),
+  pub names-cut : c < 256 ^ l .coarse → f < 256 ^ l .fine → m .ticks < perSecond → Names tag m ↔ CutTo l c f m
+  names-cut h k low = (
+    λ n. follows-cut h (named-follows tag m low (ticks-lt (grain (l .fine) (g .short)) f k) n),
+    λ x. follows-named tag m (cut-follows x),
   )

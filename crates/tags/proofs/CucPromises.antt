@@ -11,22 +11,19 @@ use lib.IntN.{ℤ}
 use lib.ListN.{length, getD}
 use Rattle.base.specs.Outcome.{Outcome, done, andThen}
 use Rattle.base.specs.Parts.{minus}
-use Rattle.base.proofs.Ladders.{never, need-done, needs-done, then-done, given-done, done-is}
+use Rattle.base.proofs.Ladders.{never, need-done, then-done, done-is}
 use Rattle.scale.specs.Time.{Time, isRecord}
-use Rattle.scale.proofs.Laws.{good-within}
+use Rattle.scale.proofs.Laws.{good-within, record-ticks}
 use Rattle.window.specs.Among.{Ascending}
 use Rattle.window.specs.Seconds.{raisedBy}
 use Rattle.window.specs.Window.{Named}
 use Rattle.counter.specs.Counter.{names}
 use Rattle.octets.specs.Counts.{countAt}
-use Rattle.octets.specs.Writes.{saysCounted}
-use Rattle.octets.specs.declared.Counted.{Counted}
-use Rattle.octets.specs.declared.Counted.the-variants as C
-use Rattle.cuc.specs.Cuc.{isEpoch, isWidth, field, width, timeOf}
+use Rattle.octets.specs.declared.Counted.the-variants.{Done}
+use Rattle.cuc.specs.Cuc.{field, width, timeOf}
 use Rattle.cuc.specs.declared.Layout as U
-use Rattle.cuc.proofs.Fields.{counted-lt}
+use Rattle.cuc.proofs.Fields.{count-lt, field-told}
 use Rattle.cuc.proofs.Layouts.{layout-good}
-use Rattle.cuc.proofs.Promises.{read-width}
 use Rattle.pfield.specs.PField.{laid, Headed, octet, headedOf}
 use Rattle.pfield.specs.declared.PField.{PField}
 use Rattle.pfield.specs.declared.Codes.the-variants as Codes
@@ -87,7 +84,7 @@ module _ (s : List ℕ) (p : Preamble) (e : ℤ) (g : Periodic) (says : tagOf s 
 
         listed : (isRecord m ≡ true) × Names g m × Inside from to m → IsListed (moments g from to) m
         listed (v, n, i) =
-            let f = named-follows g m (good-within (2 ^ 41) m (lit< tt) v .below) (short .valid .below) n in
+            let f = named-follows g m (record-ticks m v) (short .valid .below) n in
             named-listed (2 ^ 41) _ (g .first .ticks) from to low (o .in-order) m (follows-counted (2 ^ 41) g m (short .valid .low) f) i
 
   module _ (from to : Time) (x : Named ℤ) (h : listCuc s p e from to ≡ done x) where
@@ -122,29 +119,28 @@ module _ (s : List ℕ) (p : Preamble) (e : ℤ) (g : Periodic) (says : tagOf s 
 pub record Made (s : List ℕ) (at : ℕ) (o : PField) (e : ℤ) (g : Periodic) : Type 0 where
   pub layout : U.Layout
   pub lays : laid Codes.Cuc o e ≡ done (Cuc layout)
-  pub count : ℕ
-  pub counts : countAt s at (width layout) ≡ C.Done count
+  pub reads : field s at layout ≡ done (g .first)
+  pub whole : ℕ
+  pub wholes : countAt s at (layout .coarse) ≡ Done whole
+  pub part : ℕ
+  pub parts : countAt s (at + layout .coarse) (layout .fine) ≡ Done part
   pub ends : at + width layout ≡ length s
-  pub is : record { first = timeOf layout count; period = 256 ^ layout .coarse } ≡ g
-
-says-done : (r : Counted) (t : ℕ) → saysCounted r ≡ done t → r ≡ C.Done t
-says-done (C.Done n) t e = ap C.Done (done-is n t e)
-says-done C.Bad t e = never 4 t e
-says-done C.Out t e = never 1 t e
+  pub is : record { first = timeOf layout whole part; period = 256 ^ layout .coarse } ≡ g
 
 made-with : (s : List ℕ) (at : ℕ) (o : PField) (e : ℤ) (l : U.Layout) (g : Periodic) (m : Time) → laid Codes.Cuc o e ≡ done (Cuc l) → field s at l ≡ done m → whole s at l m ≡ done g → Made s at o e g
-unfolding field
 made-with s at o e l g m p f h =
     let (long, i) = need-done (leb (length s) (at + width l)) 4 (done (record { first = m; period = 256 ^ l .coarse })) g h in
-    let (_, q) = needs-done (isWidth l) (isEpoch (l .epoch)) 3 7 _ m f in
-    let (t, (c, j)) = given-done (timeOf l) (saysCounted (countAt s at (width l))) m q in
+    let t = field-told s at l m f in
     record {
       layout = l;
       lays = p;
-      count = t;
-      counts = says-done _ t c;
-      ends = omega (arith, leb-true (length s) (at + width l) long, read-width s at l m f);
-      is = ap (λ (z : Time). record { first = z; period = 256 ^ l .coarse }) j ∙ done-is _ g i;
+      reads = f ∙ ap (λ (y : Periodic). done (y .first)) (done-is _ g i);
+      whole = t .whole;
+      wholes = t .wholes;
+      part = t .part;
+      parts = t .parts;
+      ends = omega (arith, leb-true (length s) (at + width l) long, t .fits);
+      is = ap (λ (z : Time). record { first = z; period = 256 ^ l .coarse }) (t .is) ∙ done-is _ g i;
     }
 
 made-in : (s : List ℕ) (at : ℕ) (o : PField) (e : ℤ) (l : Layout) (g : Periodic) → laid Codes.Cuc o e ≡ done l → tagIn s at l ≡ done g → Made s at o e g
@@ -169,8 +165,8 @@ made-front s e g h =
     made-in s 1 (octet (getD s 0 0)) e (k .layout) g a (ap (λ (n : ℕ). tagIn s n (k .layout)) (sym b) ∙ i)
 
 -- the tag names a record exactly when the record is at or after the epoch, has the tag's ticks, and its whole seconds from the epoch, cut to the coarse octets, are the tag's
-pub made-names : (s : List ℕ) (at : ℕ) (o : PField) (e : ℤ) (g : Periodic) (d : Made s at o e g) (m : Time) → isRecord m ≡ true → Names g m ↔ CutTo (d .layout) (d .count) m
+pub made-names : (s : List ℕ) (at : ℕ) (o : PField) (e : ℤ) (g : Periodic) (d : Made s at o e g) (m : Time) → isRecord m ≡ true → Names g m ↔ CutTo (d .layout) (d .whole) (d .part) m
 made-names s at o e g d m v =
-    let y = laid-good Codes.Cuc o e (Cuc (d .layout)) (d .lays) in
+    let l = d .layout in
     rw (← d .is)
-    (names-cut (d .layout) (layout-good (d .layout) y) (d .count) (counted-lt s at (d .layout) y (d .count) (d .counts)) m (good-within (2 ^ 41) m (lit< tt) v .below))
+    (names-cut l (layout-good l (laid-good Codes.Cuc o e (Cuc l) (d .lays))) (d .whole) (d .part) m (count-lt s at (l .coarse) (d .whole) (d .wholes)) (count-lt s (at + l .coarse) (l .fine) (d .part) (d .parts)) (record-ticks m v))

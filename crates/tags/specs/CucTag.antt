@@ -2,7 +2,7 @@
 use mathlib.Core.Bool.{Bool, _||_}
 use mathlib.Core.List.{List}
 use mathlib.Core.Path.{_≡_}
-use Prim.Native.Nat.{ℕ, _+_, _*_, _/_, _%_, _^_}
+use Prim.Native.Nat.{ℕ, _+_, _*_, _%_, _^_}
 use lib.Dec.{leb, eqb}
 use lib.IntN.{ℤ, pos, _+ℤ_}
 use lib.ListN.{length, getD}
@@ -52,6 +52,6 @@ listCuc s p e from to = andThen (tagOf s p e) (listPeriodic from to)
 abbrev pub Names : Periodic → Time → Type 0
 Names g m = (k : ℕ) × (worth m ≡ worth (g .first) +ℤ pos (k * g .period * perSecond))
 
--- n being the whole seconds from the epoch to m: n cut to the coarse octets, and m's ticks, are those of the count t
-abbrev pub CutTo : U.Layout → ℕ → Time → Type 0
-CutTo l t m = (n : ℕ) × ((m .sec ≡ l .epoch +ℤ pos n) × (n % 256 ^ l .coarse ≡ t / 256 ^ l .fine) × (m .ticks ≡ t % 256 ^ l .fine * unit (l .fine)))
+-- n being the whole seconds from the epoch to m: n cut to the coarse octets is the tag's count c of seconds, and m's ticks are its f parts
+abbrev pub CutTo : U.Layout → ℕ → ℕ → Time → Type 0
+CutTo l c f m = (n : ℕ) × ((m .sec ≡ l .epoch +ℤ pos n) × (n % 256 ^ l .coarse ≡ c) × (m .ticks ≡ f * unit (l .fine)))

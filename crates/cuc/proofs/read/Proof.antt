@@ -1,16 +1,18 @@
--- `cuc::read` meets its contract.
+-- `cuc::read` meets its contract: its tests are the rungs, in their order, and the two counts lie within the width.
 use mathlib.Core.Path.{_≡_, sym, ap, _∙_}
 use mathlib.Core.Bool.{true}
+use Prim.Native.Nat.{_+_, _≤_}
+use native.Mathlib.Omega.{arith}
 use borrow.Author.Needs.{needs}
-use borrow.Author.Tests.{not-true, not-false}
-use denote.Ref.{now}
+use borrow.Author.Tests.{not-true, not-false, leb-true, leb-false}
+use lib.ListN.{length}
 use mir.Syntax.{w64}
 use mir.Val.{toZ, ofZ}
 use Rattle.base.specs.Outcome.{done}
-use Rattle.octets.specs.Counts.{countAt}
-use Rattle.cuc.specs.Cuc.{isEpoch, isWidth, isLayout, width}
+use Rattle.cuc.specs.Cuc.{isEpoch, isWidth, isLayout}
+use Rattle.cuc.specs.Inner.{Good}
 use Rattle.cuc.proofs.Layouts.{layout-good}
-use Rattle.cuc.proofs.Fields.{field-unknown, field-epoch, field-by, counted-lt}
+use Rattle.cuc.proofs.Fields.{count-lt, field-unknown, field-epoch, field-short, field-is}
 use Rattle.cuc.proofs.read.Statement.{statement}
 use Rattle.cuc.proofs.read.Tie as tie
 
@@ -19,12 +21,14 @@ is-width-requires c κs = search needs
 
 returns : tie.Need-returns
 returns c =
-    let k = c .before in
-    let a = k .before .before .args in
-    sym (field-unknown (now (a .s)) (a .at) (a .l) (sym (k .is-width .ensures) ∙ not-true _ (c .if1 .taken)))
+    let a = c .before .before .before .args in
+    sym (field-unknown (a .s .now) (a .at) (a .l) (sym (c .before .is-width .ensures) ∙ not-true _ (c .if1 .taken)))
 
 is-epoch-requires : tie.Need-is-epoch-requires
 is-epoch-requires c κs = search needs
+
+wide : (c : tie.Else1) → isWidth (c .before .before .before .args .l) ≡ true
+wide c = sym (c .before .is-width .ensures) ∙ not-false _ (c .if1 .left)
 
 -- where the layout's epoch was asked, and where the function began
 abbrev asked : tie.After-is-epoch → tie.Else1
@@ -33,69 +37,66 @@ asked c = c .before .before
 abbrev begun : tie.After-is-epoch → tie.Start
 begun c = asked c .before .before .before
 
-wide : (c : tie.Else1) → isWidth (c .before .before .before .args .l) ≡ true
-wide c = sym (c .before .is-width .ensures) ∙ not-false _ (c .if1 .left)
-
 epoch : (c : tie.After-is-epoch) → isEpoch (begun c .args .l .epoch) ≡ c .is-epoch .result
 epoch c = let l = begun c .args .l in let e : toZ w64 (ofZ w64 (l .epoch)) ≡ l .epoch = search needs in sym (rw e at (c .is-epoch .ensures))
 
 returns-2 : tie.Need-returns-2
 returns-2 c =
     let a = begun (c .before) .args in
-    sym (field-epoch (now (a .s)) (a .at) (a .l) (wide (asked (c .before))) (epoch (c .before) ∙ not-true _ (c .if2 .taken)))
+    sym (field-epoch (a .s .now) (a .at) (a .l) (wide (asked (c .before))) (epoch (c .before) ∙ not-true _ (c .if2 .taken)))
 
-size-requires : tie.Need-size-requires
-size-requires c κs = search needs
+-- what a good layout is read for
+abbrev from : tie.Else2 → tie.Start
+from c = begun (c .before)
 
-count-requires : tie.Need-count-requires
-count-requires c κs = search needs
-
-layout : (c : tie.Else2) → isLayout (begun (c .before) .args .l) ≡ true
+ok : (c : tie.Else2) → isLayout (from c .args .l) ≡ true
 unfolding isLayout
-layout c = rw (wide (asked (c .before))) (epoch (c .before) ∙ not-false _ (c .if2 .left))
+ok c = rw (wide (asked (c .before))) (epoch (c .before) ∙ not-false _ (c .if2 .left))
 
--- what the octets were counted for
-abbrev source : tie.After-count → tie.Else2
-source c = c .before .before
+good : (c : tie.Else2) → Good (from c .args .l)
+good c = layout-good (from c .args .l) (ok c)
 
-abbrev from : tie.After-count → tie.Start
-from c = begun (source c .before)
+add-w : tie.Need-add-w
+add-w c = omega (arith, good c .narrow, good c .short)
 
-counted : (c : tie.After-count) → countAt (now (from c .args .s)) (from c .args .at) (width (from c .args .l)) ≡ c .count .result
-counted c = sym (rw (c .before .size .ensures) at (c .count .ensures))
-
-enum-known-counted : tie.Need-enum-known-counted
-enum-known-counted c = search needs
-
-moment-requires : tie.Need-moment-requires
-moment-requires c κs =
-    let k = c .before .before .before in
-    let a = from k .args in
-    (layout-good (a .l) (layout (source k)), counted-lt (now (a .s)) (a .at) (a .l) (layout (source k)) _ (counted k ∙ c .before .counted .given .1))
-
-enum-told : tie.Need-enum-told
-enum-told c = search needs
-
-enum-told-2 : tie.Need-enum-told-2
-enum-told-2 c = search needs
+fits-requires : tie.Need-fits-requires
+fits-requires c κs = search needs
 
 returns-3 : tie.Need-returns-3
 returns-3 c =
-    let k = c .before .before .before .before in
-    let a = from k .args in
-    ap done (c .moment .ensures) ∙ sym (field-by (now (a .s)) (a .at) (a .l) (layout (source k)) _ (counted k ∙ c .before .before .counted .given .1))
+    let b = c .before .before in
+    let a = from b .args in
+    sym (field-short (a .s .now) (a .at) (a .l) (ok b) (leb-false _ _ (sym (c .before .fits2 .ensures) ∙ not-true _ (c .if3 .taken))))
+
+room : (c : tie.Else3) → let a = from (c .before .before) .args in a .at + (a .l .coarse + a .l .fine) ≤ length (a .s .now)
+room c = leb-true _ _ (sym (c .before .fits2 .ensures) ∙ not-false _ (c .if3 .left))
+
+number-requires : tie.Need-number-requires
+number-requires c κs = let g = good (c .before .before) in (omega (arith, g .narrow), omega (arith, room c))
+
+add-number : tie.Need-add-number
+add-number c = omega (arith, room (c .before))
+
+number-requires-2 : tie.Need-number-requires-2
+number-requires-2 c κs =
+    let b = c .before in
+    let g = good (b .before .before) in
+    (omega (arith, g .short), omega (arith, room b))
+
+moment-requires : tie.Need-moment-requires
+moment-requires c κs =
+    let b = c .before .before in
+    let a = from (b .before .before) .args in
+    let g = good (b .before .before) in
+    (g, count-lt (a .s .now) (a .at) (a .l .coarse) _ (c .before .number .ensures), count-lt (a .s .now) (a .at + a .l .coarse) (a .l .fine) _ (c .number2 .ensures))
 
 returns-4 : tie.Need-returns-4
 returns-4 c =
-    let k = c .before .before in
-    let a = from k .args in
-    sym (field-by (now (a .s)) (a .at) (a .l) (layout (source k)) _ (counted k ∙ c .enum-told .given .1))
-
-returns-5 : tie.Need-returns-5
-returns-5 c =
-    let k = c .before .before in
-    let a = from k .args in
-    sym (field-by (now (a .s)) (a .at) (a .l) (layout (source k)) _ (counted k ∙ c .enum-told2 .given .1))
+    let n = c .before in
+    let b = n .before .before in
+    let a = from (b .before .before) .args in
+    ap done (c .moment .ensures)
+    ∙ sym (field-is (a .s .now) (a .at) (a .l) (ok (b .before .before)) _ _ (room b) (n .before .number .ensures) (n .number2 .ensures))
 
 pub read-spec : {M : Type 1} → statement M
 read-spec =
@@ -105,12 +106,11 @@ read-spec =
     returns
     is-epoch-requires
     returns-2
-    size-requires
-    count-requires
-    enum-known-counted
-    moment-requires
-    enum-told
-    enum-told-2
+    add-w
+    fits-requires
     returns-3
-    returns-4
-    returns-5)
+    number-requires
+    add-number
+    number-requires-2
+    moment-requires
+    returns-4)
