@@ -1,6 +1,6 @@
 -- A CUC tag is read as a code is: its first moment is what its bytes read to, and its period is that of its P octet.
 use mathlib.Core.Path.{_≡_, sym, ap, _∙_}
-use mathlib.Core.Bool.{Bool, true, false, cond, false≢true}
+use mathlib.Core.Bool.{Bool, true, false, cond, false≢true, _||_}
 use mathlib.Core.List.{List}
 use mathlib.Core.Logic.{_↔_}
 use Prim.Native.Nat.{ℕ, _+_, _^_}
@@ -10,19 +10,21 @@ use lib.Dec.{eqb}
 use lib.IntN.{ℤ}
 use lib.ListN.{length, getD}
 use Rattle.base.specs.Outcome.{Outcome, done, andThen, given}
-use Rattle.base.proofs.Ladders.{need-yes, done-is}
+use Rattle.base.proofs.Ladders.{need-done, need-yes, done-is}
 use Rattle.scale.specs.Time.{Time}
 use Rattle.leap.specs.Table.{Table}
-use Rattle.cuc.specs.Cuc.{width, field}
+use Rattle.cuc.specs.Cuc.{width}
 use Rattle.cuc.specs.declared.Layout as U
-use Rattle.cuc.proofs.Fields.{field-by}
-use Rattle.codes.specs.PField.{ident, laid}
-use Rattle.codes.specs.Reading.{Scanned, scanned, scanIn, scanAt, scanOf}
-use Rattle.codes.specs.declared.Preamble.{Preamble}
-use Rattle.codes.specs.declared.Preamble.the-variants.{Front, Given}
-use Rattle.codes.specs.declared.pfield.Layout.{Layout}
-use Rattle.codes.specs.declared.pfield.Layout.the-variants.{Cuc, Cds, Ccs}
-use Rattle.codes.proofs.Layouts.{laid-good}
+use Rattle.pfield.specs.PField.{ident, allows, laid, octet}
+use Rattle.pfield.specs.declared.PField.{PField}
+use Rattle.pfield.specs.declared.Codes.the-variants.{All}
+use Rattle.pfield.specs.declared.Codes.the-variants as Codes
+use Rattle.pfield.proofs.Heads.{head-apart, head-front}
+use Rattle.codes.specs.Reading.{Scanned, scanned, scanIn, scanOf}
+use Rattle.pfield.specs.declared.Preamble.{Preamble}
+use Rattle.pfield.specs.declared.Preamble.the-variants.{Front, Given}
+use Rattle.pfield.specs.declared.Layout.{Layout}
+use Rattle.pfield.specs.declared.Layout.the-variants.{Cuc, Cds, Ccs}
 use Rattle.tags.specs.CucTag.{Periodic, tagOf, Names}
 use Rattle.tags.proofs.CucPromises.{Made, made-apart, made-front}
 use Rattle.promises.specs.Octet.{octetIn, coarse}
@@ -42,9 +44,20 @@ coarseIn (Cuc l) = l .coarse
 coarseIn (Cds l) = 0
 coarseIn (Ccs l) = 0
 
-laid-coarse : (o : ℕ) (e : ℤ) (l : U.Layout) → laid o e ≡ done (Cuc l) → l .coarse ≡ coarse o
-laid-coarse o e l h = go (eqb (ident o) 5) (eqb (ident o) 4) (climb-is (octetRungs o e) (layoutOf o e) (Cuc l) (sym (laid-climbs o e) ∙ h))
+-- what CUC's identifications allow, all codes' do
+laid-all : (o : PField) (e : ℤ) (l : Layout) → laid Codes.Cuc o e ≡ done l → laid All o e ≡ done l
+unfolding laid allows
+laid-all o e l h =
+    let n = ident (o .octet) in
+    let (a, k) = need-done (eqb n 1 || eqb n 2) 2 _ l h in
+    need-yes 2 _ (ap (λ (b : Bool). b || eqb n 4 || eqb n 5) a) ∙ k
+
+laid-coarse : (p : PField) (e : ℤ) (l : U.Layout) → laid All p e ≡ done (Cuc l) → l .coarse ≡ coarse (p .octet)
+laid-coarse p e l h = go (eqb (ident o) 5) (eqb (ident o) 4) (climb-is (octetRungs o e) (layoutOf o e) (Cuc l) (sym (laid-climbs p e) ∙ h))
   where
+    o : ℕ
+    o = p .octet
+
     go : (a b : Bool) → cond a (Ccs (ccsOf o)) (cond b (Cds (cdsOf o e)) (Cuc (cucOf o e))) ≡ Cuc l → l .coarse ≡ coarse o
     go true b k = absurd (false≢true (ap isCuc k))
     go false true k = absurd (false≢true (ap isCuc k))
@@ -52,31 +65,26 @@ laid-coarse o e l h = go (eqb (ident o) 5) (eqb (ident o) 4) (climb-is (octetRun
 
 module _ (t : Table) where
   -- ---- the tag, by any table: a CUC code asks none
-  record Tagged (s : List ℕ) (at o : ℕ) (e : ℤ) (g : Periodic) : Type 0 where
-    reads : scanAt t s at o e ≡ done (scanned (length s) (g .first))
-    repeats : g .period ≡ 256 ^ coarse o
-
-  tagged : (s : List ℕ) (at o : ℕ) (e : ℤ) (g : Periodic) → Made s at o e g → Tagged s at o e g
-  unfolding scanAt scanIn
+  tagged : (s : List ℕ) (at : ℕ) (o : PField) (e : ℤ) (g : Periodic) (d : Made s at o e g) → (andThen (laid All o e) (scanIn t s at) ≡ done (scanned (length s) (g .first))) × (g .period ≡ 256 ^ coarse (o .octet))
+  unfolding scanIn
   tagged s at o e g d =
       let l = d .layout in
-      let f : field s at l ≡ done (g .first) =
-      field-by s at l (laid-good o e (Cuc l) (d .lays)) _ (d .counts) ∙ ap (λ (y : Periodic). done (y .first)) (d .is) in
-      record {
-        reads =
-            ap (λ (x : Outcome Layout). andThen x (scanIn t s at)) (d .lays)
-            ∙ ap (given (scanned (at + width l))) f
-            ∙ ap (λ (n : ℕ). done (scanned n (g .first))) (d .ends);
-        repeats = sym (ap (λ (y : Periodic). y .period) (d .is)) ∙ ap (λ (c : ℕ). 256 ^ c) (laid-coarse o e l (d .lays));
-      }
+      let lays = laid-all o e (Cuc l) (d .lays) in (
+        ap (λ (x : Outcome Layout). andThen x (scanIn t s at)) lays
+            ∙ ap (given (scanned (at + width l))) (d .reads)
+            ∙ ap (λ (n : ℕ). done (scanned n (g .first))) (d .ends),
+        sym (ap (λ (y : Periodic). y .period) (d .is)) ∙ ap (λ (c : ℕ). 256 ^ c) (laid-coarse o e l lays),
+      )
 
   pub tag-reads : (s : List ℕ) (p : Preamble) (e : ℤ) (g : Periodic) → tagOf s p e ≡ done g → (scanOf t s p e ≡ done (scanned (length s) (g .first))) × (g .period ≡ 256 ^ coarse (octetIn s p))
   unfolding scanOf
-  tag-reads s (Given o) e g h = let w = tagged s 0 o e g (made-apart s o e g h) in (w .reads, w .repeats)
+  tag-reads s (Given o) e g h =
+      let (r, q) = tagged s 0 o e g (made-apart s o e g h) in
+      (head-apart (λ h. scanIn t s (h .start) (h .layout)) All s o e ∙ r, q)
   tag-reads s Front e g h =
       let d = made-front s e g h in
-      let w = tagged s 1 (getD s 0 0) e g d in
-      (need-yes 1 _ (le-leb 1 (length s) (omega (arith, d .ends))) ∙ w .reads, w .repeats)
+      let (r, q) = tagged s 1 (octet (getD s 0 0)) e g d in
+      (head-front (λ h. scanIn t s (h .start) (h .layout)) All s e ∙ need-yes 1 _ (le-leb 1 (length s) (omega (arith, d .ends))) ∙ r, q)
 
   -- so it names what its listing's rule names
   pub counted-names : (s : List ℕ) (p : Preamble) (e : ℤ) (g : Periodic) → tagOf s p e ≡ done g → (m : Time) → Counted t s p e m ↔ Names g m

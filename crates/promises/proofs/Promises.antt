@@ -23,12 +23,14 @@ use Rattle.utc.proofs.Laws.{table-good}
 use Rattle.ascii.specs.Quoted.{bytes}
 use Rattle.ascii.specs.Ascii.{isLayout, clockText, codeText}
 use Rattle.ascii.specs.declared.Layout.{Layout}
-use Rattle.codes.specs.PField.{laid}
+use Rattle.pfield.specs.PField.{laid}
+use Rattle.pfield.specs.declared.PField.{PField}
+use Rattle.pfield.specs.declared.Codes.the-variants.{All}
 use Rattle.codes.specs.Reading.{scanOf, usedOf}
 use Rattle.codes.specs.Writing.{writeOf}
 use Rattle.codes.specs.Setting.{asciiOf, written, defaultLayout, wallOf}
-use Rattle.codes.specs.declared.Preamble.{Preamble}
-use Rattle.codes.specs.declared.pfield.Layout as P
+use Rattle.pfield.specs.declared.Preamble.{Preamble}
+use Rattle.pfield.specs.declared.Layout as P
 use Rattle.codes.specs.declared.setting.Setting.{Setting}
 use Rattle.codes.specs.declared.setting.Setting.the-variants.{Binary, Ascii}
 use Rattle.window.specs.Among.{Among}
@@ -69,7 +71,7 @@ refused-reads-none t s p e n h = rw h (refl, refl)
 
 -- ==== 2, for every setting: CUC, CDS, CCS, ASCII A and B
 -- the writing calls are those of a setting; the wall clock's is the default one
-pub calls-of-settings : (t : Table) (r : Time) (p : ℕ) (e : ℤ) (front : Bool) (l : Layout) (out : List ℕ) → (writeOf t r p e front out ≡ written t r (Binary p e front) out) × (asciiOf t l r out ≡ written t r (Ascii l) out) × (wallOf t r out ≡ written t r (Ascii defaultLayout) out)
+pub calls-of-settings : (t : Table) (r : Time) (p : PField) (e : ℤ) (front : Bool) (l : Layout) (out : List ℕ) → (writeOf t r p e front out ≡ written t r (Binary p e front) out) × (asciiOf t l r out ≡ written t r (Ascii l) out) × (wallOf t r out ≡ written t r (Ascii defaultLayout) out)
 calls-of-settings t r p e front l out = (refl, refl, refl)
 
 -- "on one exact scale": 23:59:60 and the following 00:00:00 are one second apart, in every ASCII form, on the day before each later row of the table ..
@@ -117,7 +119,7 @@ module _ (t : Table) (g : reckons t ≡ true) where
   refuses-exactly = R.refused-exactly t g
 
   -- the target's range by document 01's counts: "of whole seconds from the epoch, taken downward (CUC), or of UTC days from the epoch (CDS), is not negative and fits the field. CCS and ASCII hold every covered moment"
-  pub range-counted : (p : ℕ) (e : ℤ) (l : P.Layout) (r : Time) → isRecord r ≡ true → laid p e ≡ done l → HoldsIn t l r ↔ FitsIn t l r
+  pub range-counted : (p : PField) (e : ℤ) (l : P.Layout) (r : Time) → isRecord r ≡ true → laid All p e ≡ done l → HoldsIn t l r ↔ FitsIn t l r
   range-counted = R.held-fits t g
 
   -- "Under one setting and epoch, a later source never gets an earlier time"

@@ -19,26 +19,27 @@ use Rattle.utc.proofs.Laws.{moment-told}
 use Rattle.utc.proofs.Lift.{written-of}
 use Rattle.octets.specs.Writes.{roomed}
 use Rattle.octets.proofs.Writes.{room-in}
-use Rattle.cuc.specs.Cuc.{timeOf, countOf}
 use Rattle.cuc.proofs.Fields.{bytes-in, bytes-told}
-use Rattle.cuc.proofs.Sources.{same-second}
+use Rattle.cuc.proofs.Sources.{held-is}
 use Rattle.cuc.proofs.Promises as U
 use Rattle.cds.specs.Cds as D
 use Rattle.cds.proofs.Promises as DP
 use Rattle.ccs.specs.Ccs as C
 use Rattle.ascii.specs.Ascii.{bit}
-use Rattle.codes.specs.PField.{laid}
+use Rattle.pfield.specs.PField.{laid}
+use Rattle.pfield.specs.declared.PField.{PField}
+use Rattle.pfield.specs.declared.Codes.the-variants.{All}
 use Rattle.codes.specs.Reading.{widthOf}
 use Rattle.codes.specs.Writing.{bytesOf, codeOf, writeOf}
 use Rattle.codes.specs.Setting.{written}
-use Rattle.codes.specs.declared.pfield.Layout.{Layout}
-use Rattle.codes.specs.declared.pfield.Layout.the-variants.{Cuc, Cds, Ccs}
+use Rattle.pfield.specs.declared.Layout.{Layout}
+use Rattle.pfield.specs.declared.Layout.the-variants.{Cuc, Cds, Ccs}
 use Rattle.codes.specs.declared.setting.Setting.{Setting}
 use Rattle.codes.specs.declared.setting.Setting.the-variants.{Binary, Ascii}
 use Rattle.codes.proofs.Promises as CP
 use Rattle.codes.proofs.Texts as TP
 use Rattle.codes.proofs.Fields.{bytes-width}
-use Rattle.codes.proofs.Layouts.{laid-good}
+use Rattle.pfield.proofs.Layouts.{laid-good}
 use Rattle.codes.proofs.Range.{InRange, day-held, held-day, in-range, cuc-out, cds-uncovered, cds-out, ccs-uncovered}
 use Rattle.promises.specs.Promises.{Done, Ready, isUtcIn, isUtc, Covered, HoldsIn, Holds, FitsIn, Outside}
 use Rattle.promises.specs.RungsCalendar.{coveredSecond}
@@ -79,10 +80,10 @@ module _ (t : Table) (g : reckons t ≡ true) where
       (code, ap (λ (b : Outcome (List ℕ)). andThen b (roomed out 0)) w ∙ room-in code 0 out (omega (arith, d .room, TP.write-width t l r code w)))
 
   -- ---- and the other way
-  field-held : (p : ℕ) (e : ℤ) (l : Layout) (r : Time) (c : List ℕ) → laid p e ≡ done l → bytesOf t l r ≡ done c → HoldsIn t l r
+  field-held : (p : PField) (e : ℤ) (l : Layout) (r : Time) (c : List ℕ) → laid All p e ≡ done l → bytesOf t l r ≡ done c → HoldsIn t l r
   field-held p e (Cuc l) r c lays w =
       let k = bytes-told l r c w in
-      (timeOf l (countOf l r), ((c, U.code-alone l r c w), same-second l r (k .held) (k .good) (record-ticks r (k .valid))))
+      (_, ((c, U.code-alone l r c w), held-is l r (k .held) .0))
   field-held p e (Cds l) r c lays w =
       let k = written-of t (D.bytesOf l) r c w in
       let (u, (q, i)) = moment-told t r (k .moment) (k .of) in
@@ -91,9 +92,9 @@ module _ (t : Table) (g : reckons t ≡ true) where
   field-held p e (Ccs l) r c lays w = let k = written-of t (C.bytesOf l) r c w in moment-covered r (k .moment) (k .of)
 
   -- the range by times that are read is that of the counts
-  pub held-fits : (p : ℕ) (e : ℤ) (l : Layout) (r : Time) → isRecord r ≡ true → laid p e ≡ done l → HoldsIn t l r ↔ FitsIn t l r
+  pub held-fits : (p : PField) (e : ℤ) (l : Layout) (r : Time) → isRecord r ≡ true → laid All p e ≡ done l → HoldsIn t l r ↔ FitsIn t l r
   held-fits p e (Cuc l) r v lays =
-      let good = laid-good p e (Cuc l) lays in
+      let good = laid-good All p e (Cuc l) lays in
       (λ h. let (c, w) = U.held-written l r v good h in bytes-told l r c w .held, λ k. field-held p e (Cuc l) r _ lays (bytes-in l r v good k))
   held-fits p e (Cds l) r v lays =
       (λ (u, (q, h)). (u, (q, day-held t g l (u .day) h)), λ (u, (q, k)). (u, (q, held-day t g p e l lays r u q k)))
@@ -117,7 +118,7 @@ module _ (t : Table) (g : reckons t ≡ true) where
       go (Ccs l) h u = h
   held-covered (Ascii l) r u h = h
 
-  out-binary : (p : ℕ) (e : ℤ) (front : Bool) (r : Time) (out : List ℕ) (l : Layout) → isRecord r ≡ true → laid p e ≡ done l → (Holds t (Binary p e front) r → ⊥)
+  out-binary : (p : PField) (e : ℤ) (front : Bool) (r : Time) (out : List ℕ) (l : Layout) → isRecord r ≡ true → laid All p e ≡ done l → (Holds t (Binary p e front) r → ⊥)
       → (n : ℕ) × ((writeOf t r p e front out ≡ refused n) × Outside t (Binary p e front) r n)
   out-binary p e front r out (Cuc l) v lays out-of =
       (7, (cuc-out t g p e r v front out l lays (λ h. out-of (Cuc l, (lays, h))), inr (refl, (λ u. absurd (false≢true (rw lays at u))), out-of)))

@@ -28,14 +28,17 @@ use Rattle.ccs.specs.declared.Layout.{Layout as CcsLayout}
 use Rattle.ccs.proofs.Rungs as CR
 use Rattle.ccs.proofs.Promises as CP
 use Rattle.ascii.specs.Ascii.{bit}
-use Rattle.codes.specs.PField.{ident, known, cucLaid, cdsLaid, ccsLaid, laid}
-use Rattle.codes.specs.Reading.{fieldOf, widthOf, scanned, scanIn, scanAt, scanOf}
+use Rattle.pfield.specs.PField.{ident, allows, cucLaid, cdsLaid, ccsLaid, laidAs, laid, octet}
+use Rattle.pfield.specs.declared.PField.{PField}
+use Rattle.pfield.specs.declared.Codes.the-variants.{All}
+use Rattle.pfield.proofs.Heads.{head-apart, head-front}
+use Rattle.codes.specs.Reading.{fieldOf, widthOf, scanned, scanIn, scanOf}
 use Rattle.codes.specs.Writing.{bytesOf, codeOf, fronted, writeOf}
-use Rattle.codes.specs.declared.Preamble.{Preamble}
-use Rattle.codes.specs.declared.Preamble.the-variants.{Front, Given}
-use Rattle.codes.specs.declared.pfield.Layout.{Layout}
-use Rattle.codes.specs.declared.pfield.Layout.the-variants.{Cuc, Cds, Ccs}
-use Rattle.codes.proofs.Layouts.{isLayoutOf, laid-good}
+use Rattle.pfield.specs.declared.Preamble.{Preamble}
+use Rattle.pfield.specs.declared.Preamble.the-variants.{Front, Given}
+use Rattle.pfield.specs.declared.Layout.{Layout}
+use Rattle.pfield.specs.declared.Layout.the-variants.{Cuc, Cds, Ccs}
+use Rattle.pfield.proofs.Layouts.{isLayoutOf, laid-good}
 use Rattle.promises.specs.Rungs.{rung, allHold}
 use Rattle.promises.specs.Octet.{unextended, bits67, segments}
 use Rattle.promises.specs.RungsCalendar.{coveredSecond}
@@ -46,38 +49,41 @@ use Rattle.promises.proofs.RungsAscii.{room-rung}
 use Rattle.promises.proofs.RungsFields.{field-rungs}
 
 -- ---- the P octet
-pub laid-climbs : (o : ℕ) (e : ℤ) → laid o e ≡ climb (octetRungs o e) (layoutOf o e)
-unfolding laid ccsLaid cdsLaid cucLaid
-laid-climbs o e = ap (need (known (ident o)) 2) (go (eqb (ident o) 5) (eqb (ident o) 4) (unextended o))
+pub laid-climbs : (p : PField) (e : ℤ) → laid All p e ≡ climb (octetRungs (p .octet) e) (layoutOf (p .octet) e)
+unfolding laid laidAs ccsLaid cdsLaid cucLaid
+laid-climbs p e = let o = p .octet in ap (need (allows All (ident o)) 2) (go o (eqb (ident o) 5) (eqb (ident o) 4) (unextended o))
   where
-    go : (a b x : Bool) → need x 3 (cond a (need (ltb (segments o) 7) 3 (done (Ccs (ccsOf o)))) (cond b (need (ltb (bits67 o) 3) 3 (need (cdsEpochGood o e) 7 (done (Cds (cdsOf o e))))) (need (cucEpochGood o e) 7 (done (Cuc (cucOf o e))))))
+    go : (o : ℕ) (a b x : Bool) → need x 3 (cond a (need (ltb (segments o) 7) 3 (done (Ccs (ccsOf o)))) (cond b (need (ltb (bits67 o) 3) 3 (need (cdsEpochGood o e) 7 (done (Cds (cdsOf o e))))) (need (cucEpochGood o e) 7 (done (Cuc (cucOf o e))))))
         ≡ need (x && cond a (ltb (segments o) 7) (cond b (ltb (bits67 o) 3) true)) 3 (need (cond a true (cond b (cdsEpochGood o e) (cucEpochGood o e))) 7 (done (cond a (Ccs (ccsOf o)) (cond b (Cds (cdsOf o e)) (Cuc (cucOf o e))))))
-    go true b x = need-both x (ltb (segments o) 7) 3 _
-    go false true x = need-both x (ltb (bits67 o) 3) 3 _
-    go false false x = ap (λ (t : Bool). need t 3 (need (cucEpochGood o e) 7 (done (Cuc (cucOf o e))))) (and-one x)
+    go o true b x = need-both x (ltb (segments o) 7) 3 _
+    go o false true x = need-both x (ltb (bits67 o) 3) 3 _
+    go o false false x = ap (λ (t : Bool). need t 3 (need (cucEpochGood o e) 7 (done (Cuc (cucOf o e))))) (and-one x)
 
 -- the layout of an octet that is not refused is one of its code
-pub laid-so : (o : ℕ) (e : ℤ) → allHold (octetRungs o e) ≡ true → isLayoutOf (layoutOf o e) ≡ true
-laid-so o e h = laid-good o e (layoutOf o e) (laid-climbs o e ∙ climbs-up (octetRungs o e) (layoutOf o e) h)
+pub laid-so : (p : PField) (e : ℤ) → allHold (octetRungs (p .octet) e) ≡ true → isLayoutOf (layoutOf (p .octet) e) ≡ true
+laid-so p e h =
+    laid-good All p e (layoutOf (p .octet) e) (laid-climbs p e ∙ climbs-up (octetRungs (p .octet) e) (layoutOf (p .octet) e) h)
 
 -- ---- reading
-scan-rungs : (t : Table) (s : List ℕ) (at o : ℕ) (e : ℤ) → verdict (scanAt t s at o e) ≡ judged (octetRungs o e ++ fieldRungs t s at (layoutOf o e))
-unfolding scanAt scanIn
-scan-rungs t s at o e =
-    after (laid o e) (octetRungs o e) (layoutOf o e) (scanIn t s at) _ (laid-climbs o e) (λ h.
-    verdict-given (scanned (at + widthOf (layoutOf o e))) (fieldOf t s at (layoutOf o e)) ∙ field-rungs t s at (layoutOf o e) (laid-so o e h))
+scan-rungs : (t : Table) (s : List ℕ) (at : ℕ) (p : PField) (e : ℤ) → verdict (andThen (laid All p e) (scanIn t s at)) ≡ judged (octetRungs (p .octet) e ++ fieldRungs t s at (layoutOf (p .octet) e))
+unfolding scanIn
+scan-rungs t s at p e =
+    let l = layoutOf (p .octet) e in
+    after (laid All p e) (octetRungs (p .octet) e) l (scanIn t s at) _ (laid-climbs p e) (λ h.
+    verdict-given (scanned (at + widthOf l)) (fieldOf t s at l) ∙ field-rungs t s at l (laid-so p e h))
 
 pub read-binary-rungs : (t : Table) (s : List ℕ) (p : Preamble) (e : ℤ) → verdict (scanOf t s p e) ≡ judged (readBinaryRungs t s p e)
 unfolding scanOf
-read-binary-rungs t s Front e = step (leb 1 (length s)) 1 _ _ (λ h. scan-rungs t s 1 (getD s 0 0) e)
-read-binary-rungs t s (Given o) e = scan-rungs t s 0 o e
+read-binary-rungs t s Front e =
+    ap verdict (head-front (λ h. scanIn t s (h .start) (h .layout)) All s e) ∙ step (leb 1 (length s)) 1 _ _ (λ h. scan-rungs t s 1 (octet (getD s 0 0)) e)
+read-binary-rungs t s (Given p) e = ap verdict (head-apart (λ h. scanIn t s (h .start) (h .layout)) All s p e) ∙ scan-rungs t s 0 p e
 
 -- ---- writing
-pub code-length : (front : Bool) (o : ℕ) (c : List ℕ) (w : ℕ) → length c ≡ w → length (codeOf front o c) ≡ bit front + w
+pub code-length : (front : Bool) (o : PField) (c : List ℕ) (w : ℕ) → length c ≡ w → length (codeOf front o c) ≡ bit front + w
 code-length true o c w e = omega arith
 code-length false o c w e = omega arith
 
-module _ (o : ℕ) (front : Bool) (out : List ℕ) where
+module _ (o : PField) (front : Bool) (out : List ℕ) where
   -- a T-field of w octets where the target holds the source, and else 7
   held-rungs : (x : Outcome (List ℕ)) (w : ℕ) (h : Bool) → (h ≡ true → (c : List ℕ) × ((x ≡ done c) × (length c ≡ w))) → (h ≡ false → x ≡ refused 7) → verdict (andThen x (fronted front o out)) ≡ judged (rung 7 h ∷ rung 8 (leb (bit front + w) (length out)) ∷ [])
   held-rungs x w true f n =
@@ -115,9 +121,10 @@ module _ (o : ℕ) (front : Bool) (out : List ℕ) where
     target-rungs (Cds l) h = written-rungs t (D.bytesOf l) r (fronted front o out) _ (cds-target l h)
     target-rungs (Ccs l) h = written-rungs t (C.bytesOf l) r (fronted front o out) _ (ccs-target l h)
 
-pub write-binary-rungs : (t : Table) → reckons t ≡ true → (r : Time) (o : ℕ) (e : ℤ) (front : Bool) (out : List ℕ) → verdict (writeOf t r o e front out) ≡ judged (writeBinaryRungs t r o e front out)
+pub write-binary-rungs : (t : Table) → reckons t ≡ true → (r : Time) (p : PField) (e : ℤ) (front : Bool) (out : List ℕ) → verdict (writeOf t r p e front out) ≡ judged (writeBinaryRungs t r (p .octet) e front out)
 unfolding writeOf
-write-binary-rungs t g r o e front out =
+write-binary-rungs t g r p e front out =
+    let l = layoutOf (p .octet) e in
     step (isRecord r) 7 _ _ (λ valid.
-    after (laid o e) (octetRungs o e) (layoutOf o e) (λ l. andThen (bytesOf t l r) (fronted front o out)) _ (laid-climbs o e) (λ h.
-    target-rungs o front out t g r valid (layoutOf o e) (laid-so o e h)))
+    after (laid All p e) (octetRungs (p .octet) e) l (λ l. andThen (bytesOf t l r) (fronted front p out)) _ (laid-climbs p e) (λ h.
+    target-rungs p front out t g r valid l (laid-so p e h)))

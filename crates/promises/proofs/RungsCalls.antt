@@ -14,7 +14,9 @@ use Rattle.codes.specs.Reading.{scanOf}
 use Rattle.codes.specs.Writing.{writeOf, from}
 use Rattle.codes.specs.Text.{textOf}
 use Rattle.codes.specs.Setting.{asciiOf, wallOf}
-use Rattle.codes.specs.declared.Preamble.{Preamble}
+use Rattle.pfield.specs.PField.{octet}
+use Rattle.pfield.specs.declared.PField.{PField}
+use Rattle.pfield.specs.declared.Preamble.{Preamble}
 use Rattle.tags.specs.CucTag.{listCuc}
 use Rattle.tags.specs.AsciiTag.{listAscii}
 use Rattle.promises.specs.Promises as P
@@ -76,8 +78,8 @@ second-of-utc t d x = by-rungs (secondOfUtc t d x) (secondOfUtcRungs t d x) (sec
 pub read-binary : (t : Table) (s : List ℕ) (p : Preamble) (e : ℤ) → Exactly (scanOf t s p e) (readBinaryRungs t s p e)
 read-binary t s p e = by-rungs (scanOf t s p e) (readBinaryRungs t s p e) (read-binary-rungs t s p e)
 
-pub write-binary : (t : Table) → reckons t ≡ true → (r : Time) (o : ℕ) (e : ℤ) (front : Bool) (out : List ℕ) → Exactly (writeOf t r o e front out) (writeBinaryRungs t r o e front out)
-write-binary t g r o e front out = by-rungs (writeOf t r o e front out) (writeBinaryRungs t r o e front out) (write-binary-rungs t g r o e front out)
+pub write-binary : (t : Table) → reckons t ≡ true → (r : Time) (p : PField) (e : ℤ) (front : Bool) (out : List ℕ) → Exactly (writeOf t r p e front out) (writeBinaryRungs t r (p .octet) e front out)
+write-binary t g r p e front out = by-rungs (writeOf t r p e front out) (writeBinaryRungs t r (p .octet) e front out) (write-binary-rungs t g r p e front out)
 
 pub read-ascii : (t : Table) (s : List ℕ) → Exactly (textOf t s) (readAsciiRungs t s)
 read-ascii t s = by-rungs (textOf t s) (readAsciiRungs t s) (read-ascii-rungs t s)
@@ -107,12 +109,12 @@ module _ (t : Table) (g : reckons t ≡ true) where
   calls-exactly (P.ordinalOfDay z) = ordinal-of-day z
   calls-exactly (P.utcOfSecond z) = utc-of-second t z
   calls-exactly (P.secondOfUtc d x) = second-of-utc t d x
-  calls-exactly (P.readBinary s front p e) = read-binary t s (from front p) e
-  calls-exactly (P.writeBinary r front p e out) = write-binary t g r p e front out
+  calls-exactly (P.readBinary s front p e) = read-binary t s (from front (octet p)) e
+  calls-exactly (P.writeBinary r front p e out) = write-binary t g r (octet p) e front out
   calls-exactly (P.readAscii s) = read-ascii t s
   calls-exactly (P.writeAscii r l out) = write-ascii t g l r out
   calls-exactly (P.writeWall r out) = write-wall t g r out
-  calls-exactly (P.listCuc s front p e since before) = list-cuc s (from front p) e since before
+  calls-exactly (P.listCuc s front p e since before) = list-cuc s (from front (octet p)) e since before
   calls-exactly (P.listAscii s since before) = list-ascii t s since before
 
 -- .. whose numbers are among the nine

@@ -12,10 +12,12 @@ use borrow.Author.Tests.{leb-true, le-leb, ltb-true, lt-ltb, eqb-true}
 use Rattle.base.specs.Outcome.{Outcome, done, need, andThen, given}
 use Rattle.base.proofs.Bools.{and-true}
 use Rattle.base.proofs.Ladders.{need-yes, needs-yes}
+use Rattle.scale.specs.Time.{Time}
 use Rattle.octets.specs.Places.{number, allGood, be, octetValue, octetGood, bcdValue, bcdGood}
 use Rattle.octets.specs.Counts.{countOf, countAt}
 use Rattle.octets.specs.Writes.{saysCounted}
 use Rattle.octets.proofs.Places.{good-split, all-good}
+use Rattle.octets.specs.declared.Counted.{Counted}
 use Rattle.octets.specs.declared.Counted.the-variants.{Done, Bad, Out}
 use Rattle.calendar.specs.Gregorian.{indexOfDate, indexOfOrdinal, dayOfDate, dayOfOrdinal, fromEpoch}
 use Rattle.clock.specs.Clock.{clockOf}
@@ -25,7 +27,6 @@ use Rattle.moment.specs.Moment.{moment}
 use Rattle.moment.specs.declared.Moment.{Moment}
 use Rattle.cuc.specs.Cuc as U
 use Rattle.cuc.specs.declared.Layout.{Layout as CucLayout}
-use Rattle.cuc.proofs.Fields.{field-by}
 use Rattle.cuc.proofs.Layouts as UL
 use Rattle.cds.specs.Cds as D
 use Rattle.cds.specs.declared.Layout.{Layout as CdsLayout}
@@ -34,9 +35,9 @@ use Rattle.ccs.specs.Ccs as C
 use Rattle.ccs.specs.declared.Layout.{Layout as CcsLayout}
 use Rattle.ccs.proofs.Rungs as CR
 use Rattle.codes.specs.Reading.{fieldOf}
-use Rattle.codes.specs.declared.pfield.Layout.{Layout}
-use Rattle.codes.specs.declared.pfield.Layout.the-variants.{Cuc, Cds, Ccs}
-use Rattle.codes.proofs.Layouts.{isLayoutOf}
+use Rattle.pfield.specs.declared.Layout.{Layout}
+use Rattle.pfield.specs.declared.Layout.the-variants.{Cuc, Cds, Ccs}
+use Rattle.pfield.proofs.Layouts.{isLayoutOf}
 use Rattle.promises.specs.RungsBinary.{countIn, pairsIn, milliIn, partIn, partGood, dateGood, indexIn, clockGood, secondIn, octetsOf, fieldGood, fieldRungs}
 use Rattle.promises.specs.Rungs.{Rung, rung, allHold}
 use Rattle.promises.proofs.Rungs.{verdict, judged, climb, step, need-both, then-need, rung-so, both-ways, given-need, given-climb}
@@ -75,14 +76,30 @@ module _ (b : ℕ) (v : ℕ → ℕ) (ok : ℕ → Bool) (widest : ℕ) (s : Lis
       ap (λ (y : Outcome ℕ). andThen y k) (run-there h) ∙ then-need (allGood ok (drop at s) w) 4 (number b v (drop at s) w) k
 
 -- ---- CUC
-pub cuc-climbs : (s : List ℕ) (at : ℕ) (l : CucLayout) → U.isLayout l ≡ true → U.field s at l ≡ climb (rung 1 (leb (at + (l .coarse + l .fine)) (length s)) ∷ rung 4 (allGood octetGood (drop at s) (l .coarse + l .fine)) ∷ []) (U.timeOf l (countIn s at (l .coarse + l .fine)))
+-- the time that the two counts name
+abbrev pub cucNamed : List ℕ → ℕ → CucLayout → Time
+cucNamed s at l = U.timeOf l (countIn s at (l .coarse)) (countIn s (at + l .coarse) (l .fine))
+
+pub cuc-climbs : (s : List ℕ) (at : ℕ) (l : CucLayout) → U.isLayout l ≡ true → U.field s at l ≡ climb (rung 1 (leb (at + (l .coarse + l .fine)) (length s)) ∷ rung 4 (allGood octetGood (drop at s) (l .coarse + l .fine)) ∷ []) (cucNamed s at l)
+unfolding U.field U.isLayout
 cuc-climbs s at l h =
+    needs-yes (U.isWidth l) _ 3 7 _ h
+    ∙ ap (λ (w : ℕ). need (leb (at + w) (length s)) 1 (counts (countAt s at (l .coarse)))) (UL.width-is l h)
+    ∙ rung-so (leb (at + (l .coarse + l .fine)) (length s)) 1 (λ t.
     let g = UL.layout-good l h in
-    let w = l .coarse + l .fine in
-    field-by s at l h _ refl
-    ∙ ap (λ (n : ℕ). given (U.timeOf l) (saysCounted (countAt s at n))) (UL.width-is l h)
-    ∙ ap (given (U.timeOf l)) (run-climbs 256 octetValue octetGood 8 s at w (le-leb w 8 (omega (arith, g .narrow, g .short))))
-    ∙ given-climb (U.timeOf l) (rung 1 (leb (at + w) (length s)) ∷ rung 4 (allGood octetGood (drop at s) w) ∷ []) (countIn s at w)
+    let k : at + (l .coarse + l .fine) ≤ length s = leb-true _ _ t in
+    let g1 = allGood octetGood (drop at s) (l .coarse) in
+    let g2 = allGood octetGood (drop (at + l .coarse) s) (l .fine) in
+    run-then 256 octetValue octetGood 8 s at (l .coarse) (le-leb (l .coarse) 8 (omega (arith, g .narrow)))
+    (λ c. given (U.timeOf l c) (saysCounted (countAt s (at + l .coarse) (l .fine)))) (le-leb (at + l .coarse) (length s) (omega arith))
+    ∙ ap (λ (y : Outcome ℕ). need g1 4 (given (U.timeOf l (countIn s at (l .coarse))) y))
+    (run-there 256 octetValue octetGood 8 s (at + l .coarse) (l .fine) (le-leb (l .fine) 8 (omega (arith, g .short))) (le-leb (at + l .coarse + l .fine) (length s) (omega arith)))
+    ∙ ap (need g1 4) (given-need (U.timeOf l (countIn s at (l .coarse))) g2 4 (done (countIn s (at + l .coarse) (l .fine))))
+    ∙ need-both g1 g2 4 (done (cucNamed s at l))
+    ∙ ap (λ (b : Bool). need b 4 (done (cucNamed s at l))) (sym (good-from octetGood s at (l .coarse) (l .fine))))
+  where
+    counts : Counted → Outcome Time
+    counts c = andThen (saysCounted c) (λ c. given (U.timeOf l c) (saysCounted (countAt s (at + l .coarse) (l .fine))))
 
 cuc-rungs : (t : Table) (s : List ℕ) (at : ℕ) (l : CucLayout) → U.isLayout l ≡ true → verdict (U.field s at l) ≡ judged (fieldRungs t s at (Cuc l))
 cuc-rungs t s at l h =

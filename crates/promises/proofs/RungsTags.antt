@@ -13,44 +13,45 @@ use Rattle.base.proofs.Ladders.{need-yes}
 use Rattle.scale.specs.Time.{Time, isRecord}
 use Rattle.leap.specs.Table.{Table}
 use Rattle.octets.specs.Places.{octetGood, allGood}
-use Rattle.cuc.specs.Cuc.{isLayout, width, field, timeOf}
+use Rattle.cuc.specs.Cuc.{isLayout, width, field}
 use Rattle.cuc.specs.declared.Layout.{Layout as CucLayout}
 use Rattle.cuc.proofs.Layouts.{width-is}
-use Rattle.codes.specs.PField.{ident, known, cucLaid, laid}
-use Rattle.codes.specs.declared.Preamble.{Preamble}
-use Rattle.codes.specs.declared.Preamble.the-variants.{Front, Given}
-use Rattle.codes.specs.declared.pfield.Layout.the-variants.{Cuc}
-use Rattle.codes.proofs.Layouts.{laid-good}
+use Rattle.pfield.specs.PField.{ident, allows, cucLaid, laidAs, laid, octet}
+use Rattle.pfield.specs.declared.PField.{PField}
+use Rattle.pfield.specs.declared.Codes.the-variants as Codes
+use Rattle.pfield.proofs.Heads.{head-apart, head-front}
+use Rattle.pfield.specs.declared.Preamble.{Preamble}
+use Rattle.pfield.specs.declared.Preamble.the-variants.{Front, Given}
+use Rattle.pfield.specs.declared.Layout.the-variants.{Cuc}
+use Rattle.pfield.proofs.Layouts.{laid-good}
 use Rattle.seek.specs.declared.Tag.{Tag}
 use Rattle.tag.specs.Tags.{formed, goodTag, tagOf as wantOf}
 use Rattle.tag.proofs.Witness.{tag-4}
 use Rattle.tags.specs.AsciiTag.{covered, listWanted, listAscii}
-use Rattle.tags.specs.CucTag.{Periodic, isCuc, tagWith, tagIn, tagAt, tagOf, listPeriodic, listCuc}
+use Rattle.tags.specs.CucTag.{Periodic, tagWith, tagIn, tagOf, listPeriodic, listCuc}
 use Rattle.promises.specs.Octet.{unextended}
 use Rattle.promises.specs.Rungs.{Rung, rung}
-use Rattle.promises.specs.RungsBinary.{cucEpochGood, cucOf, octetsOf, countIn}
+use Rattle.promises.specs.RungsBinary.{cucEpochGood, cucOf, octetsOf}
 use Rattle.promises.specs.RungsTags.{inOrder, listCucRungs, isTag, inCover, listAsciiRungs}
 use Rattle.promises.proofs.Rungs.{verdict, judged, climb, climbs-up, under, step, rise, after, need-both, then-then}
-use Rattle.promises.proofs.RungsFields.{cuc-climbs}
+use Rattle.promises.proofs.RungsFields.{cucNamed, cuc-climbs}
 
 -- ---- CUC tags
-told : (n : ℕ) → isCuc n ≡ true → (known n ≡ true) × (eqb n 5 ≡ false) × (eqb n 4 ≡ false)
-unfolding isCuc known
+told : (n : ℕ) → allows Codes.Cuc n ≡ true → (eqb n 5 ≡ false) × (eqb n 4 ≡ false)
+unfolding allows
 told n h = go (eqb n 1) (eqb n 2) refl refl h
   where
-    by : (k : ℕ) → n ≡ k → (known k ≡ true) × (eqb k 5 ≡ false) × (eqb k 4 ≡ false) → (known n ≡ true) × (eqb n 5 ≡ false) × (eqb n 4 ≡ false)
+    by : (k : ℕ) → n ≡ k → (eqb k 5 ≡ false) × (eqb k 4 ≡ false) → (eqb n 5 ≡ false) × (eqb n 4 ≡ false)
     by k e f = rw e f
 
-    go : (a b : Bool) → eqb n 1 ≡ a → eqb n 2 ≡ b → a || b ≡ true → (known n ≡ true) × (eqb n 5 ≡ false) × (eqb n 4 ≡ false)
-    go true b p q h = by 1 (eqb-true n 1 p) (refl, refl, refl)
-    go false true p q h = by 2 (eqb-true n 2 q) (refl, refl, refl)
+    go : (a b : Bool) → eqb n 1 ≡ a → eqb n 2 ≡ b → a || b ≡ true → (eqb n 5 ≡ false) × (eqb n 4 ≡ false)
+    go true b p q h = by 1 (eqb-true n 1 p) (refl, refl)
+    go false true p q h = by 2 (eqb-true n 2 q) (refl, refl)
     go false false p q h = absurd (false≢true h)
 
-cuc-laid : (o : ℕ) (e : ℤ) → isCuc (ident o) ≡ true → laid o e ≡ climb (rung 3 (unextended o) ∷ rung 7 (cucEpochGood o e) ∷ []) (Cuc (cucOf o e))
-unfolding laid cucLaid
-cuc-laid o e h =
-    let (k, a, b) = told (ident o) h in
-    need-yes 2 _ k ∙ ap (need (unextended o) 3) (cond-no _ _ a ∙ cond-no _ _ b)
+cuc-laid : (o : ℕ) (e : ℤ) → allows Codes.Cuc (ident o) ≡ true → need (unextended o) 3 (laidAs o e) ≡ climb (rung 3 (unextended o) ∷ rung 7 (cucEpochGood o e) ∷ []) (Cuc (cucOf o e))
+unfolding laidAs cucLaid
+cuc-laid o e h = let (a, b) = told (ident o) h in ap (need (unextended o) 3) (cond-no _ _ a ∙ cond-no _ _ b)
 
 -- the rungs of the window
 abbrev windowRungs : Time → Time → List Rung
@@ -73,9 +74,9 @@ module _ (s : List ℕ) (at : ℕ) {B : Type 0} (k : Periodic → Outcome B) (m 
       let g = allGood octetGood (drop at s) w in
       let x = leb (length s) (at + w) in
       ap verdict (then-then (field s at l) ends k)
-      ∙ after (field s at l) (rung 1 t ∷ rung 4 g ∷ []) (timeOf l (countIn s at w)) (λ y. andThen (ends y) k) (need x 4 m) (cuc-climbs s at l h) (λ r.
-      ap (λ (n : ℕ). verdict (andThen (need (leb (length s) (at + n)) 4 (done (first (timeOf l (countIn s at w))))) k)) (width-is l h)
-      ∙ rise x 4 (done (first (timeOf l (countIn s at w)))) k m (λ r. rest _))
+      ∙ after (field s at l) (rung 1 t ∷ rung 4 g ∷ []) (cucNamed s at l) (λ y. andThen (ends y) k) (need x 4 m) (cuc-climbs s at l h) (λ r.
+      ap (λ (n : ℕ). verdict (andThen (need (leb (length s) (at + n)) 4 (done (first (cucNamed s at l)))) k)) (width-is l h)
+      ∙ rise x 4 (done (first (cucNamed s at l))) k m (λ r. rest _))
       ∙ ap (need t 1) (need-both g x 4 m)
     where
       first : Time → Periodic
@@ -84,20 +85,24 @@ module _ (s : List ℕ) (at : ℕ) {B : Type 0} (k : Periodic → Outcome B) (m 
       ends : Time → Outcome Periodic
       ends y = need (leb (length s) (at + width l)) 4 (done (first y))
 
-  tag-then : (o : ℕ) (e : ℤ) → verdict (andThen (tagAt s at o e) k) ≡ under (rung 2 (isCuc (ident o)) ∷ rung 3 (unextended o) ∷ rung 7 (cucEpochGood o e) ∷ fieldRungs (cucOf o e)) m
-  unfolding tagAt tagIn
-  tag-then o e =
-      rise (isCuc (ident o)) 2 (andThen (laid o e) (tagIn s at)) k _ (λ c.
+  tag-then : (p : PField) (e : ℤ) → let o = p .octet in verdict (andThen (andThen (laid Codes.Cuc p e) (tagIn s at)) k) ≡ under (rung 2 (allows Codes.Cuc (ident o)) ∷ rung 3 (unextended o) ∷ rung 7 (cucEpochGood o e) ∷ fieldRungs (cucOf o e)) m
+  unfolding laid tagIn
+  tag-then p e =
+      let o = p .octet in
       let rs = rung 3 (unextended o) ∷ rung 7 (cucEpochGood o e) ∷ [] in
-      ap verdict (then-then (laid o e) (tagIn s at) k)
-      ∙ after (laid o e) rs (Cuc (cucOf o e)) (λ l. andThen (tagIn s at l) k) _ (cuc-laid o e c) (λ h.
-      field-then (cucOf o e) (laid-good o e (Cuc (cucOf o e)) (cuc-laid o e c ∙ climbs-up rs (Cuc (cucOf o e)) h))))
+      ap verdict (then-then (laid Codes.Cuc p e) (tagIn s at) k)
+      ∙ rise (allows Codes.Cuc (ident o)) 2 (need (unextended o) 3 (laidAs o e)) (λ l. andThen (tagIn s at l) k) _ (λ c.
+      after (need (unextended o) 3 (laidAs o e)) rs (Cuc (cucOf o e)) (λ l. andThen (tagIn s at l) k) _ (cuc-laid o e c) (λ h.
+      field-then (cucOf o e) (laid-good Codes.Cuc p e (Cuc (cucOf o e)) (need-yes 2 _ c ∙ cuc-laid o e c ∙ climbs-up rs (Cuc (cucOf o e)) h))))
 
 pub list-cuc-rungs : (s : List ℕ) (p : Preamble) (e : ℤ) (from to : Time) → verdict (listCuc s p e from to) ≡ judged (listCucRungs s p e from to)
 unfolding listCuc tagOf
 list-cuc-rungs s Front e from to =
-    rise (leb 1 (length s)) 1 (tagAt s 1 (getD s 0 0) e) (listPeriodic from to) _ (λ h. tag-then s 1 (listPeriodic from to) _ (periodic-rungs from to) (getD s 0 0) e)
-list-cuc-rungs s (Given o) e from to = tag-then s 0 (listPeriodic from to) _ (periodic-rungs from to) o e
+    ap (λ (x : Outcome Periodic). verdict (andThen x (listPeriodic from to))) (head-front (λ h. tagIn s (h .start) (h .layout)) Codes.Cuc s e)
+    ∙ rise (leb 1 (length s)) 1 (andThen (laid Codes.Cuc (octet (getD s 0 0)) e) (tagIn s 1)) (listPeriodic from to) _ (λ h. tag-then s 1 (listPeriodic from to) _ (periodic-rungs from to) (octet (getD s 0 0)) e)
+list-cuc-rungs s (Given p) e from to =
+    ap (λ (x : Outcome Periodic). verdict (andThen x (listPeriodic from to))) (head-apart (λ h. tagIn s (h .start) (h .layout)) Codes.Cuc s p e)
+    ∙ tag-then s 0 (listPeriodic from to) _ (periodic-rungs from to) p e
 
 -- ---- ASCII tags
 wanted-rungs : (t : Table) (from to : Time) (g : Tag) → verdict (listWanted t from to g) ≡ under (windowRungs from to) (judged (rung 5 (inCover t from to) ∷ []))

@@ -16,14 +16,16 @@ use Rattle.scale.proofs.Latest.{own-latest, latest-by}
 use Rattle.leap.specs.Table.{Table}
 use Rattle.utc.specs.Reckoning.{reckons}
 use Rattle.ascii.specs.declared.Layout as AL
-use Rattle.codes.specs.PField.{laid}
+use Rattle.pfield.specs.PField.{laid, octet}
+use Rattle.pfield.specs.declared.PField.{PField}
+use Rattle.pfield.specs.declared.Codes.the-variants.{All}
 use Rattle.codes.specs.Reading.{Scanned, scanned, widthOf, scanOf, usedOf, Readable}
 use Rattle.codes.specs.Writing.{bytesOf, codeOf, fronted, writeOf, from}
 use Rattle.codes.specs.Text.{letters, Spelled}
-use Rattle.codes.specs.declared.pfield.Layout.{Layout}
+use Rattle.pfield.specs.declared.Layout.{Layout}
 use Rattle.codes.specs.Setting.{asciiOf, written}
-use Rattle.codes.specs.declared.Preamble.{Preamble}
-use Rattle.codes.specs.declared.Preamble.the-variants.{Front, Given}
+use Rattle.pfield.specs.declared.Preamble.{Preamble}
+use Rattle.pfield.specs.declared.Preamble.the-variants.{Front, Given}
 use Rattle.codes.specs.declared.setting.Setting.{Setting}
 use Rattle.codes.specs.declared.setting.Setting.the-variants.{Binary, Ascii}
 use Rattle.codes.proofs.Promises as CP
@@ -38,12 +40,16 @@ moment-of : (o : Outcome Scanned) (x : Time) → given (λ (y : Scanned). y .mom
 moment-of (done y) x h = ap (λ (m : Time). done (scanned (y .used) m)) (done-is (y .moment) x h)
 moment-of (refused n) x h = never n x h
 
-own-octet : (p : ℕ) (e : ℤ) (front : Bool) (t : List ℕ) → OfSetting (Binary p e front) (codeOf front p t)
+own-octet : (p : PField) (e : ℤ) (front : Bool) (t : List ℕ) → OfSetting (Binary p e front) (codeOf front p t)
 own-octet p e true t = refl
 own-octet p e false t = tt
 
+-- a write under the octet in front is one under the P-field that has it
+own : (t : Table) (r : Time) (e : ℤ) (out c : List ℕ) (p : PField) (s : List ℕ) → getD s 0 0 ≡ p .octet → writeOf t r (octet (getD s 0 0)) e true out ≡ done c → writeOf t r p e true out ≡ done c
+own t r e out c p s q h = ap (λ (o : ℕ). writeOf t r (octet o) e true out) (sym q) ∙ h
+
 -- a T-field that is to be had is written where there is room
-pub writes-by : (t : Table) (r : Time) (p : ℕ) (e : ℤ) (front : Bool) (out : List ℕ) (l : Layout) (c : List ℕ) → isRecord r ≡ true → laid p e ≡ done l → bytesOf t l r ≡ done c → length (codeOf front p c) ≤ length out → writeOf t r p e front out ≡ done (codeOf front p c)
+pub writes-by : (t : Table) (r : Time) (p : PField) (e : ℤ) (front : Bool) (out : List ℕ) (l : Layout) (c : List ℕ) → isRecord r ≡ true → laid All p e ≡ done l → bytesOf t l r ≡ done c → length (codeOf front p c) ≤ length out → writeOf t r p e front out ≡ done (codeOf front p c)
 unfolding writeOf
 writes-by t r p e front out l c v lays w h =
     need-yes 7 _ v
@@ -53,23 +59,20 @@ writes-by t r p e front out l c v lays w h =
 
 module _ (t : Table) (g : reckons t ≡ true) where
   -- ---- binary codes: what can be held does not hang on where the P octet stands
-  module _ (p : ℕ) (e : ℤ) where
+  module _ (p : PField) (e : ℤ) where
     -- a time that T-fields read to, in writing
     record Had (x : Time) : Type 0 where
       layout : Layout
-      lays : laid p e ≡ done layout
+      lays : laid All p e ≡ done layout
       bytes : List ℕ
       writes : bytesOf t layout x ≡ done bytes
       valid : isRecord x ≡ true
 
-    had-at : (s : List ℕ) (at : ℕ) (x : Scanned) → CP.Read t s at p e x → Had (x .moment)
-    had-at s at x r =
-        let (v, w) = field-back t g s at (r .layout) (x .moment) (r .reads) in
-        record { layout = r .layout; lays = r .lays; bytes = take (widthOf (r .layout)) (drop at s); writes = w; valid = v }
-
     had : (x : Time) → Readable t p e x → Had x
-    unfolding scanOf
-    had x (s, (n, h)) = had-at s 0 (scanned n x) (CP.read-at t s 0 p e (scanned n x) h)
+    had x (s, (n, h)) =
+        let r = CP.read-apart t s p e (scanned n x) h in
+        let (v, w) = field-back t g s 0 (r .layout) x (r .reads) in
+        record { layout = r .layout; lays = r .lays; bytes = take (widthOf (r .layout)) (drop 0 s); writes = w; valid = v }
 
     pub readable-holdable : (front : Bool) (x : Time) → Readable t p e x → Holdable t (Binary p e front) x
     readable-holdable front x r =
@@ -80,9 +83,9 @@ module _ (t : Table) (g : reckons t ≡ true) where
         let i : m ≡ x = own-latest (Readable t p e) x m late (record-ticks m (had m (late .had) .valid)) (record-ticks x (a .valid)) r in
         (c, own-octet p e front (a .bytes), ap (given (λ (y : Scanned). y .moment)) (rw append-nil at (reads [])) ∙ ap done i)
 
-    holdable-front : (x : Time) (s : List ℕ) (n : ℕ) → getD s 0 0 ≡ p → scanOf t s Front e ≡ done (scanned n x) → n ≤ length s → Readable t p e x
+    holdable-front : (x : Time) (s : List ℕ) (n : ℕ) → getD s 0 0 ≡ p .octet → scanOf t s Front e ≡ done (scanned n x) → n ≤ length s → Readable t p e x
     holdable-front x s n q h k =
-        let w : writeOf t x p e true s ≡ done (take n s) = rw q at (CP.read-written-front t g s e s (scanned n x) h k) in
+        let w : writeOf t x p e true s ≡ done (take n s) = own t _ e _ _ p s q (CP.read-written-front t g s e s (scanned n x) h k) in
         let (m, (late, reads)) = CP.written-latest t g x p e true s (take n s) w in
         let f : scanOf t s Front e ≡ done (scanned (length (take n s)) m) = rw (take-append-drop n s) at (reads (drop n s)) in
         let i : m ≡ x = ap (λ (y : Scanned). y .moment) (done-is _ _ (sym f ∙ h)) in
@@ -90,13 +93,9 @@ module _ (t : Table) (g : reckons t ≡ true) where
 
     -- a code lies within the bytes
     used-in : (front : Bool) (s : List ℕ) (x : Scanned) → scanOf t s (from front p) e ≡ done x → x .used ≤ length s
-    unfolding scanOf
-    used-in true s x h =
-        let r = CP.read-at t s 1 (getD s 0 0) e x (need-done (leb 1 (length s)) 1 _ x h .1) in
-        omega (arith, r .ends, field-width t s 1 (r .layout) (x .moment) (r .reads))
-    used-in false s x h =
-        let r = CP.read-at t s 0 p e x h in
-        omega (arith, r .ends, field-width t s 0 (r .layout) (x .moment) (r .reads))
+    used-in front s x h =
+        let r = CP.read-of t s (from front p) e x h in
+        omega (arith, r .ends, field-width t s (r .head .start) (r .head .layout) (x .moment) (r .reads))
 
     pub holdable-readable : (front : Bool) (x : Time) → Holdable t (Binary p e front) x → Readable t p e x
     holdable-readable true x (s, q, h) =
@@ -105,11 +104,9 @@ module _ (t : Table) (g : reckons t ≡ true) where
     holdable-readable false x (s, q, h) = (s, (usedOf (scanOf t s (Given p) e), moment-of (scanOf t s (Given p) e) x h))
 
   scanned-valid : (s : List ℕ) (p : Preamble) (e : ℤ) (m : Time) (n : ℕ) → scanOf t s p e ≡ done (scanned n m) → isRecord m ≡ true
-  unfolding scanOf
-  scanned-valid s (Given p) e m n h = had-at p e s 0 (scanned n m) (CP.read-at t s 0 p e (scanned n m) h) .valid
-  scanned-valid s Front e m n h =
-      let p = getD s 0 0 in
-      had-at p e s 1 (scanned n m) (CP.read-at t s 1 p e (scanned n m) (need-done (leb 1 (length s)) 1 _ (scanned n m) h .1)) .valid
+  scanned-valid s p e m n h =
+      let r = CP.read-of t s p e (scanned n m) h in
+      field-back t g s (r .head .start) (r .head .layout) m (r .reads) .0
 
   -- ---- ASCII
   spelled-holdable : (l : AL.Layout) (x : Time) → Spelled t l x → Holdable t (Ascii l) x
@@ -167,8 +164,8 @@ module _ (t : Table) (g : reckons t ≡ true) where
   room-left : (n : ℕ) (s out : List ℕ) → n ≤ length s → length (take n s) ≤ length out → n ≤ length out
   room-left n s out h k = omega (arith, length-take-le n s h)
 
-  back-binary : (p : ℕ) (e : ℤ) (front : Bool) (s out : List ℕ) (x : Scanned) → OfSetting (Binary p e front) s → scanOf t s (from front p) e ≡ done x → x .used ≤ length out → writeOf t (x .moment) p e front out ≡ done (take (x .used) s)
-  back-binary p e true s out x q h k = rw q at (CP.read-written-front t g s e out x h k)
+  back-binary : (p : PField) (e : ℤ) (front : Bool) (s out : List ℕ) (x : Scanned) → OfSetting (Binary p e front) s → scanOf t s (from front p) e ≡ done x → x .used ≤ length out → writeOf t (x .moment) p e front out ≡ done (take (x .used) s)
+  back-binary p e true s out x q h k = own t _ e _ _ p s q (CP.read-written-front t g s e out x h k)
   back-binary p e false s out x q h k = CP.read-written t g s p e out x h k
 
   pub back : (setting : Setting) (s out : List ℕ) (m : Time) → OfSetting setting s → readUnder t setting s ≡ done m → length (codeIn t setting s) ≤ length out → written t m setting out ≡ done (codeIn t setting s)

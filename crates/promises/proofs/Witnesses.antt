@@ -27,14 +27,14 @@ use Rattle.ascii.specs.Quoted.{bytes}
 use Rattle.ascii.specs.Shapes.{shapes, shaped}
 use Rattle.ascii.specs.Ascii as A
 use Rattle.ascii.specs.declared.Layout.{Layout}
-use Rattle.codes.specs.PField.{known, laid, cucLaid, cdsLaid, ccsLaid}
-use Rattle.codes.specs.Reading.{scanIn, scanAt, scanOf}
+use Rattle.pfield.specs.PField.{octet, headedOf, allows, laidAs, laid, cucLaid, cdsLaid, ccsLaid}
+use Rattle.codes.specs.Reading.{scanIn, scanOf}
 use Rattle.codes.specs.Writing.{writeOf}
 use Rattle.codes.specs.Text.{letters as lettersOf}
 use Rattle.codes.specs.Setting.{written}
 use Rattle.codes.specs.declared.setting.Setting.{Setting}
 use Rattle.codes.specs.declared.setting.Setting.the-variants.{Binary, Ascii}
-use Rattle.codes.specs.declared.Preamble.the-variants.{Front}
+use Rattle.pfield.specs.declared.Preamble.the-variants.{Front}
 use Rattle.window.specs.Among.{Among, here}
 use Rattle.window.specs.Seconds.{firstSecond}
 use Rattle.window.specs.Window.{listed, namedIn, filter, consIf, range, up}
@@ -74,28 +74,28 @@ abbrev letters : Bool → ℕ → Bool → Setting
 letters b d z = Ascii (record { ordinal = b; digits = d; zone = z })
 
 -- CUC, CDS and CCS, the P octet in front or apart, by a caller's epoch or not; ASCII A and B
-cuc : Witness (Binary 0x1c (pos 0) true) (0x1c ∷ 0x6e ∷ 0xfa ∷ 0xa5 ∷ 0x24 ∷ [])
-unfolding good within known laid cucLaid cdsLaid ccsLaid scanIn scanAt scanOf writeOf roomed countOf U.isWidth U.width U.unit U.timeOf U.field U.holds U.countOf U.bytesOf
+cuc : Witness (Binary (octet 0x1c) (pos 0) true) (0x1c ∷ 0x6e ∷ 0xfa ∷ 0xa5 ∷ 0x24 ∷ [])
+unfolding good within allows laid laidAs cucLaid cdsLaid ccsLaid headedOf scanIn scanOf writeOf roomed countOf U.isWidth U.width U.field U.holds U.laid U.bytesOf
 cuc = record { ready = record { source = refl; settings = (_, refl); room = lit≤ tt }; written-as = refl; own = refl; reads = refl }
 
-cuc-apart : Witness (Binary 0x22 (pos 1861920000) false) (36 ∷ 0 ∷ 0 ∷ [])
-unfolding good within known laid cucLaid cdsLaid ccsLaid scanIn scanAt scanOf writeOf roomed countOf U.isWidth U.width U.unit U.timeOf U.field U.holds U.countOf U.bytesOf
+cuc-apart : Witness (Binary (octet 0x22) (pos 1861920000) false) (36 ∷ 0 ∷ 0 ∷ [])
+unfolding good within allows laid laidAs cucLaid cdsLaid ccsLaid headedOf scanIn scanOf writeOf roomed countOf U.isWidth U.width U.field U.holds U.laid U.bytesOf
 cuc-apart = record { ready = record { source = refl; settings = (_, refl); room = lit≤ tt }; written-as = refl; own = tt; reads = refl }
 
-cds : Witness (Binary 0x40 (pos 0) true) (0x40 ∷ 0x54 ∷ 0x2d ∷ 0x05 ∷ 0x26 ∷ 0x5c ∷ 0x00 ∷ [])
-unfolding good within known laid cucLaid cdsLaid ccsLaid scanIn scanAt scanOf writeOf roomed countOf D.isWidth D.width D.timed D.field D.held D.laid D.bytesOf timeOf momentOf isMoment L.utcOfSecond L.readingOf L.raisedBy L.secondOfUtc L.secondOf readingAt coversSecond dayHolding secondAt covers dayLength start offset builtin
+cds : Witness (Binary (octet 0x40) (pos 0) true) (0x40 ∷ 0x54 ∷ 0x2d ∷ 0x05 ∷ 0x26 ∷ 0x5c ∷ 0x00 ∷ [])
+unfolding good within allows laid laidAs cucLaid cdsLaid ccsLaid headedOf scanIn scanOf writeOf roomed countOf D.isWidth D.width D.timed D.field D.held D.laid D.bytesOf timeOf momentOf isMoment L.utcOfSecond L.readingOf L.raisedBy L.secondOfUtc L.secondOf readingAt coversSecond dayHolding secondAt covers dayLength start offset builtin
 cds = record { ready = record { source = refl; settings = (_, refl); room = lit≤ tt }; written-as = refl; own = refl; reads = refl }
 
-cds-apart : Witness (Binary 0x49 (pos 21549) false) (0 ∷ 0 ∷ 0x05 ∷ 0x26 ∷ 0x5c ∷ 0x00 ∷ 0 ∷ 0 ∷ [])
-unfolding good within known laid cucLaid cdsLaid ccsLaid scanIn scanAt scanOf writeOf roomed countOf D.isWidth D.width D.timed D.field D.held D.laid D.bytesOf timeOf momentOf isMoment L.utcOfSecond L.readingOf L.raisedBy L.secondOfUtc L.secondOf readingAt coversSecond dayHolding secondAt covers dayLength start offset builtin
+cds-apart : Witness (Binary (octet 0x49) (pos 21549) false) (0 ∷ 0 ∷ 0x05 ∷ 0x26 ∷ 0x5c ∷ 0x00 ∷ 0 ∷ 0 ∷ [])
+unfolding good within allows laid laidAs cucLaid cdsLaid ccsLaid headedOf scanIn scanOf writeOf roomed countOf D.isWidth D.width D.timed D.field D.held D.laid D.bytesOf timeOf momentOf isMoment L.utcOfSecond L.readingOf L.raisedBy L.secondOfUtc L.secondOf readingAt coversSecond dayHolding secondAt covers dayLength start offset builtin
 cds-apart = record { ready = record { source = refl; settings = (_, refl); room = lit≤ tt }; written-as = refl; own = tt; reads = refl }
 
-ccs : Witness (Binary 0x58 (pos 0) true) (0x58 ∷ 0x20 ∷ 0x16 ∷ 0x03 ∷ 0x66 ∷ 0x23 ∷ 0x59 ∷ 0x60 ∷ [])
-unfolding good within known laid cucLaid cdsLaid ccsLaid scanIn scanAt scanOf writeOf roomed countOf C.width C.dayAt C.clockAt C.field C.dateText C.clockText C.bytesOf timeOf momentOf isMoment L.utcOfSecond L.readingOf L.raisedBy L.secondOfUtc L.secondOf readingAt coversSecond dayHolding secondAt covers dayLength start offset builtin kind yearStart yearsTo row monthLength isDate isOrdinal dayIndex ordinalOn dateIn indexOfDate indexOfOrdinal indexOfDay ordinalAt
+ccs : Witness (Binary (octet 0x58) (pos 0) true) (0x58 ∷ 0x20 ∷ 0x16 ∷ 0x03 ∷ 0x66 ∷ 0x23 ∷ 0x59 ∷ 0x60 ∷ [])
+unfolding good within allows laid laidAs cucLaid cdsLaid ccsLaid headedOf scanIn scanOf writeOf roomed countOf C.width C.dayAt C.clockAt C.field C.dateText C.clockText C.bytesOf timeOf momentOf isMoment L.utcOfSecond L.readingOf L.raisedBy L.secondOfUtc L.secondOf readingAt coversSecond dayHolding secondAt covers dayLength start offset builtin kind yearStart yearsTo row monthLength isDate isOrdinal dayIndex ordinalOn dateIn indexOfDate indexOfOrdinal indexOfDay ordinalAt
 ccs = record { ready = record { source = refl; settings = (_, refl); room = lit≤ tt }; written-as = refl; own = refl; reads = refl }
 
-ccs-apart : Witness (Binary 0x51 (pos 0) false) (0x20 ∷ 0x16 ∷ 0x12 ∷ 0x31 ∷ 0x23 ∷ 0x59 ∷ 0x60 ∷ 0 ∷ [])
-unfolding good within known laid cucLaid cdsLaid ccsLaid scanIn scanAt scanOf writeOf roomed countOf C.width C.dayAt C.clockAt C.field C.dateText C.clockText C.bytesOf timeOf momentOf isMoment L.utcOfSecond L.readingOf L.raisedBy L.secondOfUtc L.secondOf readingAt coversSecond dayHolding secondAt covers dayLength start offset builtin kind yearStart yearsTo row monthLength isDate isOrdinal dayIndex ordinalOn dateIn indexOfDate indexOfOrdinal indexOfDay ordinalAt
+ccs-apart : Witness (Binary (octet 0x51) (pos 0) false) (0x20 ∷ 0x16 ∷ 0x12 ∷ 0x31 ∷ 0x23 ∷ 0x59 ∷ 0x60 ∷ 0 ∷ [])
+unfolding good within allows laid laidAs cucLaid cdsLaid ccsLaid headedOf scanIn scanOf writeOf roomed countOf C.width C.dayAt C.clockAt C.field C.dateText C.clockText C.bytesOf timeOf momentOf isMoment L.utcOfSecond L.readingOf L.raisedBy L.secondOfUtc L.secondOf readingAt coversSecond dayHolding secondAt covers dayLength start offset builtin kind yearStart yearsTo row monthLength isDate isOrdinal dayIndex ordinalOn dateIn indexOfDate indexOfOrdinal indexOfDay ordinalAt
 ccs-apart = record { ready = record { source = refl; settings = (_, refl); room = lit≤ tt }; written-as = refl; own = tt; reads = refl }
 
 ascii-a : Witness (letters false 3 true) (bytes "2016-12-31T23:59:60.000Z")
@@ -135,8 +135,8 @@ record Refusing (setting : Setting) (r : Time) (n : ℕ) : Type 0 where
 abbrev early : Time
 early = time (pos 441763209) 0
 
-outside : Refusing (Binary 0x10 (pos 0) true) leap 7 × Refusing (Binary 0x48 (pos 21550) true) leap 7 × Refusing (Binary 0x40 (pos 0) true) early 5 × Refusing (Binary 0x50 (pos 0) true) early 5 × Refusing (letters true 0 false) early 5
-unfolding good within known laid cucLaid cdsLaid ccsLaid scanIn scanAt scanOf writeOf roomed countOf U.isWidth U.width U.unit U.timeOf U.field U.holds U.countOf U.bytesOf D.isWidth D.width D.timed D.field D.held D.laid D.bytesOf C.width C.dayAt C.clockAt C.field C.dateText C.clockText C.bytesOf A.width A.layoutOf A.dayAt A.clockAt A.fieldsOf A.text A.dayText A.clockText A.codeText A.bytesOf lettersOf shaped shapes timeOf momentOf isMoment L.utcOfSecond L.readingOf L.raisedBy L.secondOfUtc L.secondOf readingAt coversSecond dayHolding secondAt covers dayLength start offset builtin kind yearStart yearsTo row monthLength isDate isOrdinal dayIndex ordinalOn dateIn indexOfDate indexOfOrdinal indexOfDay ordinalAt
+outside : Refusing (Binary (octet 0x10) (pos 0) true) leap 7 × Refusing (Binary (octet 0x48) (pos 21550) true) leap 7 × Refusing (Binary (octet 0x40) (pos 0) true) early 5 × Refusing (Binary (octet 0x50) (pos 0) true) early 5 × Refusing (letters true 0 false) early 5
+unfolding good within allows laid laidAs cucLaid cdsLaid ccsLaid headedOf scanIn scanOf writeOf roomed countOf U.isWidth U.width U.field U.holds U.laid U.bytesOf D.isWidth D.width D.timed D.field D.held D.laid D.bytesOf C.width C.dayAt C.clockAt C.field C.dateText C.clockText C.bytesOf A.width A.layoutOf A.dayAt A.clockAt A.fieldsOf A.text A.dayText A.clockText A.codeText A.bytesOf lettersOf shaped shapes timeOf momentOf isMoment L.utcOfSecond L.readingOf L.raisedBy L.secondOfUtc L.secondOf readingAt coversSecond dayHolding secondAt covers dayLength start offset builtin kind yearStart yearsTo row monthLength isDate isOrdinal dayIndex ordinalOn dateIn indexOfDate indexOfOrdinal indexOfDay ordinalAt
 outside = (
   record { ready = record { source = refl; settings = (_, refl); room = lit≤ tt }; refuses = refl },
   record { ready = record { source = refl; settings = (_, refl); room = lit≤ tt }; refuses = refl },
@@ -150,7 +150,7 @@ abbrev lent : ℕ → List ℤ
 lent n = replicate n (pos 9)
 
 counts : given (listed (lent 2)) (listBy builtin (counter (16 ∷ 0 ∷ []) Front (pos 0)) (time (pos 0) 0) (time (pos 1024) 0)) ≡ done (record { ticks = 0; count = 2; more = true })
-unfolding good within known laid cucLaid cdsLaid ccsLaid scanIn scanAt scanOf writeOf roomed countOf U.isWidth U.width U.unit U.timeOf U.field U.holds U.countOf U.bytesOf K.isCuc K.tagWith K.tagIn K.tagAt K.tagOf K.listPeriodic K.listCuc startAt momentsIn firstSecond counted namedIn filter consIf range up listed
+unfolding good within allows laid laidAs cucLaid cdsLaid ccsLaid headedOf scanIn scanOf writeOf roomed countOf U.isWidth U.width U.field U.holds U.laid U.bytesOf K.tagWith K.tagIn K.tagOf K.listPeriodic K.listCuc startAt momentsIn firstSecond counted namedIn filter consIf range up listed
 counts = refl
 
 -- "::60" over the five seconds around 2016-12-31T23:59:60
@@ -170,7 +170,7 @@ results : answers
     ∷ P.readBinary (0x1c ∷ 0x6e ∷ 0xfa ∷ 0xa5 ∷ 0x24 ∷ []) true 0 (pos 0) ∷ P.writeBinary leap true 0x1c (pos 0) room ∷ P.readAscii (bytes "2016-12-31T23:59:60") ∷ P.writeAscii leap (layout 12) room ∷ P.writeWall leap room
     ∷ P.listCuc (16 ∷ 0 ∷ []) true 0 (pos 0) (time (pos 0) 0) (time (pos 9) 0) ∷ P.listAscii (bytes "::60") leap leap ∷ [])
     ≡ replicate 15 0
-unfolding good within known laid cucLaid cdsLaid ccsLaid scanIn scanAt scanOf writeOf roomed countOf U.isWidth U.width U.unit U.timeOf U.field U.holds U.countOf U.bytesOf A.width A.layoutOf A.dayAt A.clockAt A.fieldsOf A.text A.dayText A.clockText A.codeText A.bytesOf lettersOf shaped shapes timeOf momentOf isMoment L.utcOfSecond L.readingOf L.raisedBy L.secondOfUtc L.secondOf readingAt coversSecond dayHolding secondAt covers dayLength start offset builtin kind yearStart yearsTo row monthLength isDate isOrdinal dayIndex ordinalOn dateIn indexOfDate indexOfOrdinal indexOfDay ordinalAt K.isCuc K.tagWith K.tagIn K.tagAt K.tagOf K.listPeriodic K.listCuc startAt momentsIn firstSecond counted namedIn filter consIf range up calendarAs clockAs unzoned timeIn alone joined formed goodDay goodClock tagOf names dayFits clockFits AsciiTag.covered AsciiTag.listWanted AsciiTag.listAscii shapeOf days months hours minutes
+unfolding good within allows laid laidAs cucLaid cdsLaid ccsLaid headedOf scanIn scanOf writeOf roomed countOf U.isWidth U.width U.field U.holds U.laid U.bytesOf A.width A.layoutOf A.dayAt A.clockAt A.fieldsOf A.text A.dayText A.clockText A.codeText A.bytesOf lettersOf shaped shapes timeOf momentOf isMoment L.utcOfSecond L.readingOf L.raisedBy L.secondOfUtc L.secondOf readingAt coversSecond dayHolding secondAt covers dayLength start offset builtin kind yearStart yearsTo row monthLength isDate isOrdinal dayIndex ordinalOn dateIn indexOfDate indexOfOrdinal indexOfDay ordinalAt K.tagWith K.tagIn K.tagOf K.listPeriodic K.listCuc startAt momentsIn firstSecond counted namedIn filter consIf range up calendarAs clockAs unzoned timeIn alone joined formed goodDay goodClock tagOf names dayFits clockFits AsciiTag.covered AsciiTag.listWanted AsciiTag.listAscii shapeOf days months hours minutes
 results = refl
 
 refusals : answers
@@ -178,5 +178,5 @@ refusals : answers
     ∷ P.readBinary (0x1c ∷ 0x6e ∷ []) true 0 (pos 0) ∷ P.writeBinary leap true 0x60 (pos 0) room ∷ P.readAscii (bytes "2016-12-31T12:00:60") ∷ P.writeAscii leap (layout 13) room ∷ P.writeWall leap (7 ∷ [])
     ∷ P.listCuc (16 ∷ 0 ∷ []) true 0 (pos 0) (time (pos 9) 0) (time (pos 0) 0) ∷ P.listAscii (bytes "::60") early leap ∷ [])
     ≡ 7 ∷ 7 ∷ 4 ∷ 7 ∷ 4 ∷ 7 ∷ 5 ∷ 6 ∷ 1 ∷ 2 ∷ 4 ∷ 3 ∷ 8 ∷ 9 ∷ 5 ∷ []
-unfolding good within known laid cucLaid cdsLaid ccsLaid scanIn scanAt scanOf writeOf roomed countOf U.isWidth U.width U.unit U.timeOf U.field U.holds U.countOf U.bytesOf A.width A.layoutOf A.dayAt A.clockAt A.fieldsOf A.text A.dayText A.clockText A.codeText A.bytesOf lettersOf shaped shapes timeOf momentOf isMoment L.utcOfSecond L.readingOf L.raisedBy L.secondOfUtc L.secondOf readingAt coversSecond dayHolding secondAt covers dayLength start offset builtin kind yearStart yearsTo row monthLength isDate isOrdinal dayIndex ordinalOn dateIn indexOfDate indexOfOrdinal indexOfDay ordinalAt K.isCuc K.tagWith K.tagIn K.tagAt K.tagOf K.listPeriodic K.listCuc startAt momentsIn firstSecond counted namedIn filter consIf range up calendarAs clockAs unzoned timeIn alone joined formed goodDay goodClock tagOf names dayFits clockFits AsciiTag.covered AsciiTag.listWanted AsciiTag.listAscii shapeOf days months hours minutes
+unfolding good within allows laid laidAs cucLaid cdsLaid ccsLaid headedOf scanIn scanOf writeOf roomed countOf U.isWidth U.width U.field U.holds U.laid U.bytesOf A.width A.layoutOf A.dayAt A.clockAt A.fieldsOf A.text A.dayText A.clockText A.codeText A.bytesOf lettersOf shaped shapes timeOf momentOf isMoment L.utcOfSecond L.readingOf L.raisedBy L.secondOfUtc L.secondOf readingAt coversSecond dayHolding secondAt covers dayLength start offset builtin kind yearStart yearsTo row monthLength isDate isOrdinal dayIndex ordinalOn dateIn indexOfDate indexOfOrdinal indexOfDay ordinalAt K.tagWith K.tagIn K.tagOf K.listPeriodic K.listCuc startAt momentsIn firstSecond counted namedIn filter consIf range up calendarAs clockAs unzoned timeIn alone joined formed goodDay goodClock tagOf names dayFits clockFits AsciiTag.covered AsciiTag.listWanted AsciiTag.listAscii shapeOf days months hours minutes
 refusals = refl

@@ -4,9 +4,9 @@ use mathlib.Core.List.{List}
 use Prim.Native.Nat.{ℕ, _+_, _*_, _/_, _%_}
 use lib.Dec.{leb, ltb, eqb}
 use lib.ListN.{length, getD}
-use Rattle.codes.specs.PField.{ident, bit4}
-use Rattle.codes.specs.declared.Preamble.{Preamble}
-use Rattle.codes.specs.declared.Preamble.the-variants.{Front, Given}
+use Rattle.pfield.specs.PField.{ident, bit4}
+use Rattle.pfield.specs.declared.Preamble.{Preamble}
+use Rattle.pfield.specs.declared.Preamble.the-variants.{Front, Given}
 
 -- ---- "A P octet is read from the front or supplied by the caller apart"
 abbrev pub octetThere : List ℕ → Preamble → Bool
@@ -15,7 +15,7 @@ octetThere s (Given o) = true
 
 abbrev pub octetIn : List ℕ → Preamble → ℕ
 octetIn s Front = getD s 0 0
-octetIn s (Given o) = o
+octetIn s (Given p) = p .octet
 
 -- where the T-field begins
 abbrev pub fieldAt : Preamble → ℕ

@@ -19,14 +19,15 @@ use Rattle.cuc.specs.Cuc as U
 use Rattle.cds.specs.Cds as D
 use Rattle.ascii.specs.Ascii.{isLayout, width, layoutOf, bit}
 use Rattle.ascii.specs.declared.Layout.{Layout}
-use Rattle.codes.specs.PField.{laid}
+use Rattle.pfield.specs.PField.{laid, octet}
+use Rattle.pfield.specs.declared.Codes.the-variants.{All}
 use Rattle.codes.specs.Reading.{Scanned, scanned, scanOf, usedOf, widthOf, HasDay}
 use Rattle.codes.specs.Writing.{from, writeOf}
 use Rattle.codes.specs.Text.{textOf}
 use Rattle.codes.specs.Setting.{asciiOf, wallOf}
-use Rattle.codes.specs.declared.Preamble.{Preamble}
-use Rattle.codes.specs.declared.pfield.Layout as P
-use Rattle.codes.specs.declared.pfield.Layout.the-variants.{Cuc, Cds, Ccs}
+use Rattle.pfield.specs.declared.Preamble.{Preamble}
+use Rattle.pfield.specs.declared.Layout as P
+use Rattle.pfield.specs.declared.Layout.the-variants.{Cuc, Cds, Ccs}
 use Rattle.codes.specs.declared.setting.Setting.{Setting}
 use Rattle.codes.specs.declared.setting.Setting.the-variants.{Binary, Ascii}
 use Rattle.window.specs.Among.{Among, Ascending}
@@ -83,12 +84,12 @@ outcomeOf t (dayOfOrdinal y d) = G.dayOfOrdinal y d
 outcomeOf t (ordinalOfDay z) = G.ordinalOfDay z
 outcomeOf t (utcOfSecond z) = L.utcOfSecond t z
 outcomeOf t (secondOfUtc d x) = L.secondOfUtc t d x
-outcomeOf t (readBinary s front p e) = scanOf t s (from front p) e
-outcomeOf t (writeBinary r front p e out) = writeOf t r p e front out
+outcomeOf t (readBinary s front p e) = scanOf t s (from front (octet p)) e
+outcomeOf t (writeBinary r front p e out) = writeOf t r (octet p) e front out
 outcomeOf t (readAscii s) = textOf t s
 outcomeOf t (writeAscii r l out) = asciiOf t l r out
 outcomeOf t (writeWall r out) = wallOf t r out
-outcomeOf t (listCuc s front p e since before) = C.listCuc s (from front p) e since before
+outcomeOf t (listCuc s front p e since before) = C.listCuc s (from front (octet p)) e since before
 outcomeOf t (listAscii s since before) = T.listAscii t s since before
 
 -- it ends with a result ..
@@ -120,7 +121,7 @@ MayFollow (Ascii l) rest = rest ≡ []
 
 -- "with the same settings": the P octet in front is the setting's own, where it is written; the text has the setting's form, digits and Z
 abbrev pub OfSetting : Setting → List ℕ → Type 0
-OfSetting (Binary p e true) s = getD s 0 0 ≡ p
+OfSetting (Binary p e true) s = getD s 0 0 ≡ p .octet
 OfSetting (Binary p e false) s = Unit {0}
 OfSetting (Ascii l) s = layoutOf s ≡ l
 
@@ -138,7 +139,7 @@ pub record Yields (t : Table) (setting : Setting) (r : Time) (code : List ℕ) (
 -- ---- "With a valid source, settings and epochs and enough room"
 -- an identification, a layout and an epoch that there are; at most 12 digits
 abbrev pub Valid : Setting → Type 0
-Valid (Binary p e front) = Done (laid p e)
+Valid (Binary p e front) = Done (laid All p e)
 Valid (Ascii l) = isLayout l ≡ true
 
 -- how many bytes a code of the setting has
@@ -147,7 +148,7 @@ sizeBy front (done l) = bit front + widthOf l
 sizeBy front (refused n) = 0
 
 abbrev pub sizeOf : Setting → ℕ
-sizeOf (Binary p e front) = sizeBy front (laid p e)
+sizeOf (Binary p e front) = sizeBy front (laid All p e)
 sizeOf (Ascii l) = width l
 
 pub record Ready (r : Time) (setting : Setting) (out : List ℕ) : Type 0 where
@@ -164,7 +165,7 @@ isUtcIn (done (Ccs l)) = true
 isUtcIn (refused n) = false
 
 abbrev pub isUtc : Setting → Bool
-isUtc (Binary p e front) = isUtcIn (laid p e)
+isUtc (Binary p e front) = isUtcIn (laid All p e)
 isUtc (Ascii l) = true
 
 -- the source is on one of the table's days
@@ -178,7 +179,7 @@ HoldsIn t (Cds l) r = (u : Utc) × ((L.utcOfSecond t (r .sec) ≡ done u) × Has
 HoldsIn t (Ccs l) r = Covered t r
 
 abbrev pub Holds : Table → Setting → Time → Type 0
-Holds t (Binary p e front) r = (l : P.Layout) × ((laid p e ≡ done l) × HoldsIn t l r)
+Holds t (Binary p e front) r = (l : P.Layout) × ((laid All p e ≡ done l) × HoldsIn t l r)
 Holds t (Ascii l) r = Covered t r
 
 -- the same by the counts themselves

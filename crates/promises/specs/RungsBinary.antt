@@ -18,10 +18,11 @@ use Rattle.cds.specs.Cds.{isEpochDay}
 use Rattle.cds.specs.declared.Layout as D
 use Rattle.ccs.specs.declared.Layout as C
 use Rattle.ascii.specs.Ascii.{bit}
-use Rattle.codes.specs.PField.{ident, known}
-use Rattle.codes.specs.declared.Preamble.{Preamble}
-use Rattle.codes.specs.declared.pfield.Layout.{Layout}
-use Rattle.codes.specs.declared.pfield.Layout.the-variants.{Cuc, Cds, Ccs}
+use Rattle.pfield.specs.PField.{ident, allows}
+use Rattle.pfield.specs.declared.Codes.the-variants.{All}
+use Rattle.pfield.specs.declared.Preamble.{Preamble}
+use Rattle.pfield.specs.declared.Layout.{Layout}
+use Rattle.pfield.specs.declared.Layout.the-variants.{Cuc, Cds, Ccs}
 use Rattle.promises.specs.Octet.{octetThere, octetIn, fieldAt, unextended, byCode, bits67, cucFrom1958, coarse, fine, cdsFrom1958, dayOctets, partOctets, byOrdinal, segments}
 use Rattle.promises.specs.Rungs.{Rung, rung}
 use Rattle.promises.specs.RungsCalendar.{coveredDay, coveredSecond, hasSecond}
@@ -42,7 +43,7 @@ abbrev pub epochGood : ℕ → ℤ → Bool
 epochGood o e = byCode o (cucEpochGood o e) (cdsEpochGood o e) true
 
 abbrev pub octetRungs : ℕ → ℤ → List Rung
-octetRungs o e = rung 2 (known (ident o)) ∷ rung 3 (supported o) ∷ rung 7 (epochGood o e) ∷ []
+octetRungs o e = rung 2 (allows All (ident o)) ∷ rung 3 (supported o) ∷ rung 7 (epochGood o e) ∷ []
 
 -- ---- the layout that a P octet gives: said of one that is not refused
 abbrev pub cucOf : ℕ → ℤ → U.Layout

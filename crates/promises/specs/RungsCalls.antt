@@ -1,6 +1,7 @@
 -- The rungs of each call of the C interface, by any table.
 use mathlib.Core.List.{List}
 use Rattle.leap.specs.Table.{Table}
+use Rattle.pfield.specs.PField.{octet}
 use Rattle.codes.specs.Writing.{from}
 use Rattle.promises.specs.Promises.{Call, difference, shift, dayOfDate, dateOfDay, dayOfOrdinal, ordinalOfDay, utcOfSecond, secondOfUtc, readBinary, writeBinary, readAscii, writeAscii, writeWall, listCuc, listAscii}
 use Rattle.promises.specs.Rungs.{Rung}
@@ -19,10 +20,10 @@ rungsOf t (dayOfOrdinal y d) = dayOfOrdinalRungs y d
 rungsOf t (ordinalOfDay z) = ordinalOfDayRungs z
 rungsOf t (utcOfSecond z) = utcOfSecondRungs t z
 rungsOf t (secondOfUtc d x) = secondOfUtcRungs t d x
-rungsOf t (readBinary s front p e) = readBinaryRungs t s (from front p) e
+rungsOf t (readBinary s front p e) = readBinaryRungs t s (from front (octet p)) e
 rungsOf t (writeBinary r front p e out) = writeBinaryRungs t r p e front out
 rungsOf t (readAscii s) = readAsciiRungs t s
 rungsOf t (writeAscii r l out) = writeAsciiRungs t l r out
 rungsOf t (writeWall r out) = writeWallRungs t r out
-rungsOf t (listCuc s front p e since before) = listCucRungs s (from front p) e since before
+rungsOf t (listCuc s front p e since before) = listCucRungs s (from front (octet p)) e since before
 rungsOf t (listAscii s since before) = listAsciiRungs t s since before

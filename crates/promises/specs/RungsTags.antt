@@ -9,12 +9,12 @@ use Rattle.base.specs.Outcome.{Outcome, done, refused}
 use Rattle.scale.specs.Time.{Time, isRecord, earlier}
 use Rattle.leap.specs.Table.{Table}
 use Rattle.octets.specs.Places.{octetGood, allGood}
-use Rattle.codes.specs.PField.{ident}
-use Rattle.codes.specs.declared.Preamble.{Preamble}
-use Rattle.codes.specs.declared.pfield.Layout.the-variants.{Cuc}
+use Rattle.pfield.specs.PField.{ident, allows}
+use Rattle.pfield.specs.declared.Codes.the-variants as Codes
+use Rattle.pfield.specs.declared.Preamble.{Preamble}
+use Rattle.pfield.specs.declared.Layout.the-variants.{Cuc}
 use Rattle.seek.specs.declared.Tag.{Tag}
 use Rattle.tag.specs.Tags.{formed, goodTag}
-use Rattle.tags.specs.CucTag.{isCuc}
 use Rattle.promises.specs.Octet.{octetThere, octetIn, fieldAt, unextended}
 use Rattle.promises.specs.Rungs.{Rung, rung}
 use Rattle.promises.specs.RungsCalendar.{firstCovered, pastCover}
@@ -37,7 +37,7 @@ tagGood s p e = allGood octetGood (drop (fieldAt p) s) (octetsOf (Cuc (cucOf (oc
 abbrev pub listCucRungs : List ℕ → Preamble → ℤ → Time → Time → List Rung
 listCucRungs s p e from to =
     rung 1 (octetThere s p) ∷
-    rung 2 (isCuc (ident (octetIn s p))) ∷
+    rung 2 (allows Codes.Cuc (ident (octetIn s p))) ∷
     rung 3 (unextended (octetIn s p)) ∷
     rung 7 (cucEpochGood (octetIn s p) e) ∷
     rung 1 (leb (tagEnd s p e) (length s)) ∷
