@@ -115,9 +115,9 @@ module _ (t : Table) where
       ∙ ap (λ (y : ℕ). done (scanned y m)) k
 
   -- a T-field that is to be had is written where there is room
-  write-in : (m : Time) (o : PField) (e : ℤ) (front : Bool) (out : List ℕ) (l : Layout) (c : List ℕ) → isRecord m ≡ true → laid All o e ≡ done l → bytesOf t l m ≡ done c → length (codeOf front o c) ≤ length out → writeOf t m o e front out ≡ done (codeOf front o c)
+  pub writes-by : (m : Time) (o : PField) (e : ℤ) (front : Bool) (out : List ℕ) (l : Layout) (c : List ℕ) → isRecord m ≡ true → laid All o e ≡ done l → bytesOf t l m ≡ done c → length (codeOf front o c) ≤ length out → writeOf t m o e front out ≡ done (codeOf front o c)
   unfolding writeOf
-  write-in m o e front out l c v p w h =
+  writes-by m o e front out l c v p w h =
       need-yes 7 _ v
       ∙ ap (λ (x : Outcome Layout). andThen x (λ k. andThen (bytesOf t k m) (fronted front o out))) p
       ∙ ap (λ (x : Outcome (List ℕ)). andThen x (fronted front o out)) w
@@ -155,7 +155,7 @@ module _ (t : Table) where
         let l = r .layout in
         let (v, b) = field-back t g s 0 l (x .moment) (r .reads) in
         let f : length (take (widthOf l) s) ≤ length out = omega (arith, r .ends, length-take-le (widthOf l) s (omega (arith, field-width t s 0 l (x .moment) (r .reads)))) in
-        write-in (x .moment) o e false out l (take (widthOf l) s) v (r .lays) b f ∙ ap (λ (y : ℕ). done (take y s)) (r .ends)
+        writes-by (x .moment) o e false out l (take (widthOf l) s) v (r .lays) b f ∙ ap (λ (y : ℕ). done (take y s)) (r .ends)
 
     -- .. or read from the front
     pub read-written-front : (s : List ℕ) (e : ℤ) (out : List ℕ) (x : Scanned) → scanOf t s Front e ≡ done x → x .used ≤ length out → writeOf t (x .moment) (octet (getD s 0 0)) e true out ≡ done (take (x .used) s)
@@ -171,4 +171,4 @@ module _ (t : Table) where
         go (o ∷ s) n l q i k some a =
             let (v, b) = field-back t g (o ∷ s) 1 l (x .moment) q in
             let f : length (o ∷ take (widthOf l) s) ≤ length out = omega (arith, i, length-take-le (widthOf l) s (omega (arith, field-width t (o ∷ s) 1 l (x .moment) q))) in
-            write-in (x .moment) (octet o) e true out l (take (widthOf l) s) v a b f ∙ ap (λ (y : ℕ). done (take y (o ∷ s))) i
+            writes-by (x .moment) (octet o) e true out l (take (widthOf l) s) v a b f ∙ ap (λ (y : ℕ). done (take y (o ∷ s))) i

@@ -30,16 +30,11 @@ use Rattle.pfield.specs.PField.{laid}
 use Rattle.pfield.specs.declared.PField.{PField}
 use Rattle.pfield.specs.declared.Codes.the-variants.{All}
 use Rattle.codes.specs.Reading.{HasDay}
+use Rattle.codes.specs.Range.{HoldsIn}
 use Rattle.codes.specs.Writing.{bytesOf, codeOf, fronted, writeOf}
 use Rattle.pfield.specs.declared.Layout.{Layout}
 use Rattle.pfield.specs.declared.Layout.the-variants.{Cuc, Cds, Ccs}
 use Rattle.pfield.proofs.Layouts.{isLayoutOf, laid-good}
-
--- the target's range, by the times that its T-fields read to: a second that CUC has, a UTC day that CDS has; CCS has every covered moment
-abbrev pub InRange : Table → Layout → Time → Type 0
-InRange t (Cuc l) r = CucHolds l r
-InRange t (Cds l) r = (u : Utc) × ((utcOfSecond t (r .sec) ≡ done u) × HasDay t (Cds l) (u .day))
-InRange t (Ccs l) r = (u : Utc) × (utcOfSecond t (r .sec) ≡ done u)
 
 module _ (t : Table) where
   -- a T-field that is not to be had refuses the write, whatever the room
@@ -81,7 +76,7 @@ module _ (t : Table) where
       cds-on l u q = written-so t (cdsBytes l) r _ (moment-done t r u q)
 
       -- in range there is a T-field
-      pub in-range : (l : Layout) → laid All o e ≡ done l → InRange t l r → (c : List ℕ) × (bytesOf t l r ≡ done c)
+      pub in-range : (l : Layout) → laid All o e ≡ done l → HoldsIn t l r → (c : List ℕ) × (bytesOf t l r ≡ done c)
       in-range (Cuc l) p h = U.held-written l r v (laid-good All o e (Cuc l) p) h
       in-range (Cds l) p (u, (q, h)) =
           (_, cds-on l u q ∙ D.written-held l _ (laid-good All o e (Cds l) p) (moment-valid t g r _ v (moment-done t r u q)) (day-held l (u .day) h))

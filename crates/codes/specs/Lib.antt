@@ -1,4 +1,5 @@
 pub mod Reading
+pub mod Range
 pub mod Writing
 pub mod Text
 pub mod Setting

@@ -27,6 +27,7 @@ use Rattle.pfield.specs.PField.{laid}
 use Rattle.pfield.specs.declared.PField.{PField}
 use Rattle.pfield.specs.declared.Codes.the-variants.{All}
 use Rattle.codes.specs.Reading.{scanOf, usedOf}
+use Rattle.codes.specs.Range.{HoldsIn}
 use Rattle.codes.specs.Writing.{writeOf}
 use Rattle.codes.specs.Setting.{asciiOf, written, defaultLayout, wallOf}
 use Rattle.pfield.specs.declared.Preamble.{Preamble}
@@ -35,7 +36,7 @@ use Rattle.codes.specs.declared.setting.Setting.{Setting}
 use Rattle.codes.specs.declared.setting.Setting.the-variants.{Binary, Ascii}
 use Rattle.window.specs.Among.{Among}
 use Rattle.window.specs.Window.{Listed, Named, listed, leaves}
-use Rattle.promises.specs.Promises.{Call, outcomeOf, Done, Refused, lastNumber, readUnder, codeIn, OfSetting, Holdable, Yields, Ready, HoldsIn, Holds, FitsIn, Outside, second, Shows, SecondApart, Shortened, listBy, Lists}
+use Rattle.promises.specs.Promises.{Call, outcomeOf, Done, Refused, lastNumber, readUnder, codeIn, OfSetting, Holdable, Yields, Ready, Holds, FitsIn, Outside, second, Shows, SecondApart, Shortened, listBy, Lists}
 use Rattle.promises.specs.RungsCalls.{rungsOf}
 use Rattle.promises.proofs.Rungs.{ends-by, answers-by}
 use Rattle.promises.proofs.RungsCalls.{calls-numbered, calls-exactly}

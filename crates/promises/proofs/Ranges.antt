@@ -30,6 +30,7 @@ use Rattle.pfield.specs.PField.{laid}
 use Rattle.pfield.specs.declared.PField.{PField}
 use Rattle.pfield.specs.declared.Codes.the-variants.{All}
 use Rattle.codes.specs.Reading.{widthOf}
+use Rattle.codes.specs.Range.{HoldsIn}
 use Rattle.codes.specs.Writing.{bytesOf, codeOf, writeOf}
 use Rattle.codes.specs.Setting.{written}
 use Rattle.pfield.specs.declared.Layout.{Layout}
@@ -40,12 +41,12 @@ use Rattle.codes.proofs.Promises as CP
 use Rattle.codes.proofs.Texts as TP
 use Rattle.codes.proofs.Fields.{bytes-width}
 use Rattle.pfield.proofs.Layouts.{laid-good}
-use Rattle.codes.proofs.Range.{InRange, day-held, held-day, in-range, cuc-out, cds-uncovered, cds-out, ccs-uncovered}
-use Rattle.promises.specs.Promises.{Done, Ready, isUtcIn, isUtc, Covered, HoldsIn, Holds, FitsIn, Outside}
+use Rattle.codes.proofs.Range.{day-held, held-day, in-range, cuc-out, cds-uncovered, cds-out, ccs-uncovered}
+use Rattle.promises.specs.Promises.{Done, Ready, isUtcIn, isUtc, Covered, Holds, FitsIn, Outside}
 use Rattle.promises.specs.RungsCalendar.{coveredSecond}
 use Rattle.promises.proofs.RungsCalendar.{utc-climbs}
 use Rattle.promises.proofs.RungsBinary.{code-length}
-use Rattle.promises.proofs.Settings.{writes-by, ascii-told}
+use Rattle.promises.proofs.Settings.{ascii-told}
 
 module _ (t : Table) (g : reckons t ≡ true) where
   -- ---- the table's days
@@ -64,16 +65,11 @@ module _ (t : Table) (g : reckons t ≡ true) where
   moment-covered r m e = let (u, (a, _)) = moment-told t r m e in (u, a)
 
   -- ---- the target holds it: it is written
-  ranged : (l : Layout) (r : Time) → HoldsIn t l r → InRange t l r
-  ranged (Cuc l) r h = h
-  ranged (Cds l) r h = h
-  ranged (Ccs l) r h = h
-
   pub held-written : (setting : Setting) (r : Time) (out : List ℕ) → Ready r setting out → Holds t setting r → Done (written t r setting out)
   held-written (Binary p e front) r out d (l, (lays, h)) =
-      let (c, w) = in-range t g p e r (d .source) l lays (ranged l r h) in
+      let (c, w) = in-range t g p e r (d .source) l lays h in
       let k : bit front + widthOf l ≤ length out = rw lays at (d .room) in
-      (codeOf front p c, writes-by t r p e front out l c (d .source) lays w (omega (arith, code-length front p c (widthOf l) (bytes-width t l r c w))))
+      (codeOf front p c, CP.writes-by t r p e front out l c (d .source) lays w (omega (arith, code-length front p c (widthOf l) (bytes-width t l r c w))))
   held-written (Ascii l) r out d h =
       let (u, q) = h in
       let (code, w) = TP.covered-written t g l r (d .source) (d .settings) u q in

@@ -48,15 +48,6 @@ own-octet p e false t = tt
 own : (t : Table) (r : Time) (e : ℤ) (out c : List ℕ) (p : PField) (s : List ℕ) → getD s 0 0 ≡ p .octet → writeOf t r (octet (getD s 0 0)) e true out ≡ done c → writeOf t r p e true out ≡ done c
 own t r e out c p s q h = ap (λ (o : ℕ). writeOf t r (octet o) e true out) (sym q) ∙ h
 
--- a T-field that is to be had is written where there is room
-pub writes-by : (t : Table) (r : Time) (p : PField) (e : ℤ) (front : Bool) (out : List ℕ) (l : Layout) (c : List ℕ) → isRecord r ≡ true → laid All p e ≡ done l → bytesOf t l r ≡ done c → length (codeOf front p c) ≤ length out → writeOf t r p e front out ≡ done (codeOf front p c)
-unfolding writeOf
-writes-by t r p e front out l c v lays w h =
-    need-yes 7 _ v
-    ∙ ap (λ (x : Outcome Layout). andThen x (λ k. andThen (bytesOf t k r) (fronted front p out))) lays
-    ∙ ap (λ (x : Outcome (List ℕ)). andThen x (fronted front p out)) w
-    ∙ room-in (codeOf front p c) 0 out (omega arith)
-
 module _ (t : Table) (g : reckons t ≡ true) where
   -- ---- binary codes: what can be held does not hang on where the P octet stands
   module _ (p : PField) (e : ℤ) where
@@ -78,7 +69,7 @@ module _ (t : Table) (g : reckons t ≡ true) where
     readable-holdable front x r =
         let a = had x r in
         let c = codeOf front p (a .bytes) in
-        let w = writes-by t x p e front c (a .layout) (a .bytes) (a .valid) (a .lays) (a .writes) (omega arith) in
+        let w = CP.writes-by t x p e front c (a .layout) (a .bytes) (a .valid) (a .lays) (a .writes) (omega arith) in
         let (m, (late, reads)) = CP.written-latest t g x p e front c c w in
         let i : m ≡ x = own-latest (Readable t p e) x m late (record-ticks m (had m (late .had) .valid)) (record-ticks x (a .valid)) r in
         (c, own-octet p e front (a .bytes), ap (given (λ (y : Scanned). y .moment)) (rw append-nil at (reads [])) ∙ ap done i)

@@ -21,7 +21,8 @@ use Rattle.ascii.specs.Ascii.{isLayout, width, layoutOf, bit}
 use Rattle.ascii.specs.declared.Layout.{Layout}
 use Rattle.pfield.specs.PField.{laid, octet}
 use Rattle.pfield.specs.declared.Codes.the-variants.{All}
-use Rattle.codes.specs.Reading.{Scanned, scanned, scanOf, usedOf, widthOf, HasDay}
+use Rattle.codes.specs.Reading.{Scanned, scanned, scanOf, usedOf, widthOf}
+use Rattle.codes.specs.Range.{HoldsIn}
 use Rattle.codes.specs.Writing.{from, writeOf}
 use Rattle.codes.specs.Text.{textOf}
 use Rattle.codes.specs.Setting.{asciiOf, wallOf}
@@ -172,12 +173,7 @@ isUtc (Ascii l) = true
 abbrev pub Covered : Table → Time → Type 0
 Covered t r = Done (L.utcOfSecond t (r .sec))
 
--- "A target holds a source when its count of whole seconds from the epoch, taken downward (CUC), or of UTC days from the epoch (CDS), is not negative and fits the field. CCS and ASCII hold every covered moment": of that second, or on that day, there is a time that some T-field reads to
-abbrev pub HoldsIn : Table → P.Layout → Time → Type 0
-HoldsIn t (Cuc l) r = U.Holds l r
-HoldsIn t (Cds l) r = (u : Utc) × ((L.utcOfSecond t (r .sec) ≡ done u) × HasDay t (Cds l) (u .day))
-HoldsIn t (Ccs l) r = Covered t r
-
+-- the layout's own range, where the setting is a P-field's; every covered moment, where it is an ASCII layout
 abbrev pub Holds : Table → Setting → Time → Type 0
 Holds t (Binary p e front) r = (l : P.Layout) × ((laid All p e ≡ done l) × HoldsIn t l r)
 Holds t (Ascii l) r = Covered t r
