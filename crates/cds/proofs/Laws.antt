@@ -21,7 +21,7 @@ use Rattle.octets.specs.declared.Counted.the-variants.{Done}
 use Rattle.octets.proofs.Places.{octet-rule}
 use Rattle.octets.proofs.Counts.{Read, told, read-lt}
 use Rattle.moment.specs.Moment.{moment}
-use Rattle.cds.specs.Cds.{isEpochDay, isWidth, isLayout, width, parts, perMillisecond, fraction, timed, field}
+use Rattle.cds.specs.Cds.{isEpochDay, isWidth, isLayout, width, parts, perMillisecond, fraction, momentBy, field}
 use Rattle.cds.specs.Inner.{Good}
 use Rattle.cds.specs.declared.Layout.{Layout}
 
@@ -115,16 +115,16 @@ day-lt w n h k = let z : 256 ^ w ≤ 256 ^ 3 = pow-le-pow-right (lit< tt) h in o
 
 -- ---- the rungs of a T-field's reading
 module _ (l : Layout) (d m p : ℕ) where
-  pub timed-over : 86400999 < m → timed l d m p ≡ refused 4
-  unfolding timed
+  pub timed-over : 86400999 < m → momentBy l d m p ≡ refused 4
+  unfolding momentBy
   timed-over h = need-no 4 _ (lt-leb m 86400999 h)
 
-  pub timed-part : m ≤ 86400999 → parts (l .part) ≤ p → timed l d m p ≡ refused 4
-  unfolding timed
+  pub timed-part : m ≤ 86400999 → parts (l .part) ≤ p → momentBy l d m p ≡ refused 4
+  unfolding momentBy
   timed-part h k = need-yes 4 _ (le-leb m 86400999 h) ∙ need-no 4 _ (le-ltb p (parts (l .part)) k)
 
-  pub timed-is : m ≤ 86400999 → p < parts (l .part) → timed l d m p ≡ done (moment (l .epoch +ℤ pos d) (m / 1000) (fraction (l .part) m p))
-  unfolding timed
+  pub timed-is : m ≤ 86400999 → p < parts (l .part) → momentBy l d m p ≡ done (moment (l .epoch +ℤ pos d) (m / 1000) (fraction (l .part) m p))
+  unfolding momentBy
   timed-is h k = need-yes 4 _ (le-leb m 86400999 h) ∙ need-yes 4 _ (lt-ltb p (parts (l .part)) k)
 
 module _ (s : List ℕ) (at : ℕ) (l : Layout) where
@@ -141,6 +141,6 @@ module _ (s : List ℕ) (at : ℕ) (l : Layout) where
     unfolding field isLayout
     field-short h = needs-yes (isWidth l) _ 3 7 _ e ∙ need-no {t = leb (at + width l) (length s)} 1 _ (rw (width-is l e) (lt-leb _ _ h))
 
-    pub field-is : (d m p : ℕ) → at + (l .day + 4 + l .part) ≤ length s → countAt s at (l .day) ≡ Done d → countAt s (at + l .day) 4 ≡ Done m → countAt s (at + l .day + 4) (l .part) ≡ Done p → field s at l ≡ timed l d m p
+    pub field-is : (d m p : ℕ) → at + (l .day + 4 + l .part) ≤ length s → countAt s at (l .day) ≡ Done d → countAt s (at + l .day) 4 ≡ Done m → countAt s (at + l .day + 4) (l .part) ≡ Done p → field s at l ≡ momentBy l d m p
     unfolding field isLayout
     field-is d m p h a b c = needs-yes (isWidth l) _ 3 7 _ e ∙ need-yes {t = leb (at + width l) (length s)} 1 _ (rw (width-is l e) (le-leb _ _ h)) ∙ rw (a, b, c)

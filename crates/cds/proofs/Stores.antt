@@ -20,7 +20,7 @@ use Rattle.octets.specs.declared.Written.the-variants.{Done, Refused}
 use Rattle.octets.proofs.Places.{length-places}
 use Rattle.octets.proofs.Pastes.{length-pasted, then, stored}
 use Rattle.octets.proofs.Writes.{refuses, room-in, room-out, fills}
-use Rattle.cds.specs.Cds.{held, laid}
+use Rattle.cds.specs.Cds.{held, inOctets}
 use Rattle.cds.specs.Inner.{seatIn}
 use Rattle.cds.specs.declared.Layout.{Layout}
 
@@ -96,18 +96,18 @@ module _ (l : Layout) (z : ℤ) where
 
 -- ---- the T-field, stored
 module _ (l : Layout) (d m p : ℕ) where
-  pub length-laid : length (laid l d m p) ≡ l .day + 4 + l .part
-  unfolding laid
+  pub length-laid : length (inOctets l d m p) ≡ l .day + 4 + l .part
+  unfolding inOctets
   length-laid =
       simp length-append
       (omega (arith, length-places 256 octetOf (l .day) d, length-places 256 octetOf 4 m, length-places 256 octetOf (l .part) p))
 
   module _ (at : ℕ) (d0 : List ℕ) where
-    pub laid-out : length d0 < at + (l .day + 4 + l .part) → Wrote (roomed d0 at (laid l d m p)) at d0 d0 (Refused Room)
-    laid-out h = refuses Room _ at d0 (room-out (laid l d m p) at d0 (omega (arith, length-laid)))
+    pub laid-out : length d0 < at + (l .day + 4 + l .part) → Wrote (roomed d0 at (inOctets l d m p)) at d0 d0 (Refused Room)
+    laid-out h = refuses Room _ at d0 (room-out (inOctets l d m p) at d0 (omega (arith, length-laid)))
 
-    pub laid-in : {d1 d2 d3 : List ℕ} {q r s : Bool} → at + (l .day + 4 + l .part) ≤ length d0 → Stored (octets (l .day) d) at d0 d1 q → Stored (octets 4 m) (at + l .day) d1 d2 r → Stored (octets (l .part) p) (at + l .day + 4) d2 d3 s → Wrote (roomed d0 at (laid l d m p)) at d0 d3 (Done (at + (l .day + 4 + l .part)))
-    unfolding laid
+    pub laid-in : {d1 d2 d3 : List ℕ} {q r s : Bool} → at + (l .day + 4 + l .part) ≤ length d0 → Stored (octets (l .day) d) at d0 d1 q → Stored (octets 4 m) (at + l .day) d1 d2 r → Stored (octets (l .part) p) (at + l .day + 4) d2 d3 s → Wrote (roomed d0 at (inOctets l d m p)) at d0 d3 (Done (at + (l .day + 4 + l .part)))
+    unfolding inOctets
     laid-in {d1} {d2} {d3} h f g k =
         let A = octets (l .day) d in
         let B = octets 4 m in
@@ -121,4 +121,4 @@ module _ (l : Layout) (d m p : ℕ) where
         let ab : length (A ++ B) ≡ l .day + 4 = omega (arith, length-append A B) in
         let n2 : length d2 ≡ length d0 = ap length e2 ∙ length-pasted d0 at (A ++ B) (omega arith) in
         let e3 : d3 ≡ pasted d0 at (A ++ B ++ C) = then d0 (A ++ B) C at (at + l .day + 4) e2 (stored (omega arith) k .1) (omega arith) (omega arith) in
-        fills (laid l d m p) _ at _ d0 d3 (room-in (laid l d m p) at d0 (omega (arith, length-laid))) (omega (arith, length-laid)) e3
+        fills (inOctets l d m p) _ at _ d0 d3 (room-in (inOctets l d m p) at d0 (omega (arith, length-laid))) (omega (arith, length-laid)) e3

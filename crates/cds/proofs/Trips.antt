@@ -21,7 +21,7 @@ use Rattle.octets.proofs.Counts.{read-text, read-back}
 use Rattle.moment.specs.Moment.{moment, isMoment, Floor}
 use Rattle.moment.specs.declared.Moment.{Moment}
 use Rattle.moment.proofs.Laws.{moment-parts}
-use Rattle.cds.specs.Cds.{isEpochDay, isWidth, isLayout, width, parts, perMillisecond, fraction, remainder, timed, field, Reads, held, laid, coded}
+use Rattle.cds.specs.Cds.{isEpochDay, isWidth, isLayout, width, parts, perMillisecond, fraction, remainder, momentBy, field, Reads, held, inOctets, coded}
 use Rattle.cds.specs.declared.Layout.{Layout}
 use Rattle.cds.proofs.Laws.{layout-good, width-is, count-told, count-lt, timed-is, field-is}
 use Rattle.cds.proofs.Ticks.{fraction-back, remainder-lt, floor-below, floor-most}
@@ -48,10 +48,10 @@ pub record Found (s : List ℕ) (at : ℕ) (l : Layout) (x : Moment) : Type 0 wh
   pub p : ℕ
   pub named : Timed l x d m p
   pub fits : at + (l .day + 4 + l .part) ≤ length s
-  pub text : take (l .day + 4 + l .part) (drop at s) ≡ laid l d m p
+  pub text : take (l .day + 4 + l .part) (drop at s) ≡ inOctets l d m p
 
-timed-told : (l : Layout) (x : Moment) (d m p : ℕ) → isLayout l ≡ true → d < 256 ^ l .day → timed l d m p ≡ done x → Timed l x d m p
-unfolding timed
+timed-told : (l : Layout) (x : Moment) (d m p : ℕ) → isLayout l ≡ true → d < 256 ^ l .day → momentBy l d m p ≡ done x → Timed l x d m p
+unfolding momentBy
 timed-told l x d m p a h e =
     let (u, r) = need-done (leb m 86400999) 4 _ x e in
     let (v, w) = need-done (ltb p (parts (l .part))) 4 _ x r in
@@ -63,8 +63,8 @@ timed-told l x d m p a h e =
       is = done-is _ x w;
     }
 
-texts : (s : List ℕ) (at : ℕ) (l : Layout) (d m p : ℕ) → countAt s at (l .day) ≡ Done d → countAt s (at + l .day) 4 ≡ Done m → countAt s (at + l .day + 4) (l .part) ≡ Done p → take (l .day + 4 + l .part) (drop at s) ≡ laid l d m p
-unfolding laid
+texts : (s : List ℕ) (at : ℕ) (l : Layout) (d m p : ℕ) → countAt s at (l .day) ≡ Done d → countAt s (at + l .day) 4 ≡ Done m → countAt s (at + l .day + 4) (l .part) ≡ Done p → take (l .day + 4 + l .part) (drop at s) ≡ inOctets l d m p
+unfolding inOctets
 texts s at l d m p a b c =
     let q : at + (l .day + 4) ≡ at + l .day + 4 = omega arith in
     rw (take-add (l .day + 4) (l .part) (drop at s), take-add (l .day) 4 (drop at s), drop-drop (l .day) at s, drop-drop (l .day + 4) at s, q, read-text (count-told s at (l .day) d a) octet-rule, read-text (count-told s (at + l .day) 4 m b) octet-rule, read-text (count-told s (at + l .day + 4) (l .part) p c) octet-rule)
@@ -88,8 +88,8 @@ found s at l x e =
     }
 
 -- ---- a T-field of three numbers, read
-pub laid-reads : (l : Layout) (d m p : ℕ) → isLayout l ≡ true → d < 256 ^ l .day → m < 256 ^ 4 → p < 256 ^ l .part → (s rest : List ℕ) (at : ℕ) → at ≤ length s → drop at s ≡ laid l d m p ++ rest → field s at l ≡ timed l d m p
-unfolding laid
+pub laid-reads : (l : Layout) (d m p : ℕ) → isLayout l ≡ true → d < 256 ^ l .day → m < 256 ^ 4 → p < 256 ^ l .part → (s rest : List ℕ) (at : ℕ) → at ≤ length s → drop at s ≡ inOctets l d m p ++ rest → field s at l ≡ momentBy l d m p
+unfolding inOctets
 laid-reads l d m p e hd hm hp s rest at a f =
     let g = layout-good l e in
     let A = octets (l .day) d in
@@ -108,7 +108,7 @@ laid-reads l d m p e hd hm hp s rest at a f =
     (sym (read-back octet-rule 8 s rest (at + l .day + 4) (l .part) p (omega (arith, g .part)) hp (omega (arith, n)) f3))
 
 -- and it names its moment
-pub timed-done : (l : Layout) (x : Moment) (d m p : ℕ) → Timed l x d m p → timed l d m p ≡ done x
+pub timed-done : (l : Layout) (x : Moment) (d m p : ℕ) → Timed l x d m p → momentBy l d m p ≡ done x
 timed-done l x d m p n = timed-is l d m p (n .milli) (n .part) ∙ ap done (n .is)
 
 -- ---- the three numbers that are written
@@ -160,7 +160,7 @@ module _ (l : Layout) (m : Moment) (e : isLayout l ≡ true) (v : isMoment m ≡
       whole = omega (arith, moment-parts m v)
 
 -- ---- a moment that is read is held, and its three numbers are those of its T-field
-pub named-coded : (l : Layout) (x : Moment) (d m p : ℕ) → Timed l x d m p → (held l (x .day) ≡ true) × (coded l x ≡ laid l d m p)
+pub named-coded : (l : Layout) (x : Moment) (d m p : ℕ) → Timed l x d m p → (held l (x .day) ≡ true) × (coded l x ≡ inOctets l d m p)
 named-coded l x d m p n =
     let (a, b) = held-so l (x .day) d (ap (λ (c : Moment). c .day) (n .is)) (n .day) in
     let (q, o) = fraction-back (l .part) m p (n .part) in

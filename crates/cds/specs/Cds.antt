@@ -51,8 +51,8 @@ abbrev pub fraction : ℕ → ℕ → ℕ → ℕ
 fraction w m p = m % 1000 * perMillisecond + p * unit w
 
 -- the moment of a day from the epoch, a millisecond of day and a remainder: "millisecond of day (.. 0 to 86,400,999)", "0 to 999", "0 to 999,999,999", else 4
-unfoldable pub timed : Layout → ℕ → ℕ → ℕ → Outcome Moment
-timed l d m p =
+unfoldable pub momentBy : Layout → ℕ → ℕ → ℕ → Outcome Moment
+momentBy l d m p =
     need (leb m 86400999) 4
     (need (ltb p (parts (l .part))) 4
     (done (moment (l .epoch +ℤ pos d) (m / 1000) (fraction (l .part) m p))))
@@ -65,7 +65,7 @@ field s at l =
     (andThen (saysCounted (countAt s at (l .day))) (λ d.
     andThen (saysCounted (countAt s (at + l .day) 4)) (λ m.
     andThen (saysCounted (countAt s (at + l .day + 4) (l .part))) (λ p.
-    timed l d m p)))))
+    momentBy l d m p)))))
 
 -- the moments that its T-fields read to
 abbrev pub Reads : Layout → Moment → Type 0
@@ -77,8 +77,8 @@ unfoldable pub held : Layout → ℤ → Bool
 held l d = within (pos 0) (pos (256 ^ l .day - 1)) (d -ℤ l .epoch)
 
 -- a T-field of its three numbers
-unfoldable pub laid : Layout → ℕ → ℕ → ℕ → List ℕ
-laid l d m p = octets (l .day) d ++ octets 4 m ++ octets (l .part) p
+unfoldable pub inOctets : Layout → ℕ → ℕ → ℕ → List ℕ
+inOctets l d m p = octets (l .day) d ++ octets 4 m ++ octets (l .part) p
 
 -- "The writer takes the fraction downward": the remainder of a second's ticks
 abbrev pub remainder : ℕ → ℕ → ℕ
@@ -86,7 +86,7 @@ remainder w k = k % perMillisecond / unit w
 
 -- the T-field of a moment
 abbrev pub coded : Layout → Moment → List ℕ
-coded l m = laid l (natAbs (m .day -ℤ l .epoch)) (m .second * 1000 + m .ticks / perMillisecond) (remainder (l .part) (m .ticks))
+coded l m = inOctets l (natAbs (m .day -ℤ l .epoch)) (m .second * 1000 + m .ticks / perMillisecond) (remainder (l .part) (m .ticks))
 
 -- "3, epoch 7, .. target 7"; a writer given a moment that is none refuses 7, between the epoch's and the target's; no call shows it
 unfoldable pub bytesOf : Layout → Moment → Outcome (List ℕ)

@@ -16,7 +16,7 @@ ghost use Rattle.moment.specs.Moment.{isMoment, saysMoment};
 ghost use Rattle.octets.specs.Counts.{countAt};
 ghost use Rattle.octets.specs.Writes.{roomed, Wrote};
 ghost use Rattle.octets.specs.declared.Counted.the-variants as Counted;
-ghost use Rattle.cds.specs.Cds.{isEpochDay, isWidth, isLayout, width, parts, timed, field, laid, bytesOf};
+ghost use Rattle.cds.specs.Cds.{isEpochDay, isWidth, isLayout, width, parts, momentBy, field, inOctets, bytesOf};
 ghost use Rattle.cds.specs.Inner.{Good, seatIn};
 
 // The epoch day, the octets of the day (2 or 3) and the octets of the part of a millisecond (0, 2 or 4).
@@ -61,7 +61,7 @@ pub fn read(s: &[u8], at: usize, l: Layout) -> MomentAnswer
     let d = number(s, at, day);
     let m = number(s, at + day, 4);
     let p = number(s, at + day + 4, part);
-    timed(l, d, m, p)
+    moment_by(l, d, m, p)
 }
 
 // Writes a moment's T-field from `at` on, the fraction taken downward.
@@ -116,9 +116,9 @@ fn parts(part: usize) -> u64
 }
 
 // The moment of a day from the epoch, a millisecond of day and a part of the millisecond.
-fn timed(l: Layout, d: u64, m: u64, p: u64) -> MomentAnswer
+fn moment_by(l: Layout, d: u64, m: u64, p: u64) -> MomentAnswer
     requires { ⌜ Good l × (d < 2 ^ 24) ⌝ }
-    ensures { λ r. ⌜ saysMoment r ≡ timed l d m p ⌝ }
+    ensures { λ r. ⌜ saysMoment r ≡ momentBy l d m p ⌝ }
 {
     if 86400999 < m {
         return MomentAnswer::Refused(Refusal::Field);
@@ -183,7 +183,7 @@ fn put(m: Moment, l: Layout, out: &mut [u8], at: usize) -> Written
 // Stores a T-field of its three numbers where there is room.
 fn store(l: Layout, d: u64, m: u64, p: u64, out: &mut [u8], at: usize) -> Written
     requires { ⌜ Good l ⌝ }
-    ensures { λ a. ⌜ Wrote (roomed (now (out .entry)) at (laid l d m p)) at (now (out .entry)) (now (out .exit)) a ⌝ }
+    ensures { λ a. ⌜ Wrote (roomed (now (out .entry)) at (inOctets l d m p)) at (now (out .entry)) (now (out .exit)) a ⌝ }
 {
     let day = l.day;
     let part = l.part;

@@ -3,8 +3,8 @@ use Rattle.base.specs.Outcome.{Outcome, done, refused}
 use Rattle.base.specs.Refusals.{number}
 use Rattle.scale.specs.Answers.{recorded}
 use Rattle.codes.specs.Reading.{Scanned, scanned}
-use Rattle.codes.specs.declared.Reading as R
+use Rattle.codes.specs.declared.ScanAnswer as R
 
-abbrev pub saysReading : R.Reading → Outcome Scanned
-saysReading (R.the-variants.Done r n) = done (scanned n (recorded r))
-saysReading (R.the-variants.Refused why) = refused (number why)
+abbrev pub saysScan : R.ScanAnswer → Outcome Scanned
+saysScan (R.the-variants.Done r n) = done (scanned n (recorded r))
+saysScan (R.the-variants.Refused why) = refused (number why)

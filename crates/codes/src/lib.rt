@@ -27,23 +27,23 @@ ghost use Rattle.cds.specs.Cds as D;
 ghost use Rattle.ccs.specs.Ccs as C;
 ghost use Rattle.codes.specs.Reading.{scanned, scanIn, scanOf, usedOf};
 ghost use Rattle.codes.specs.Writing.{bytesOf, fronted, writeOf};
-ghost use Rattle.codes.specs.Answers.{saysReading};
+ghost use Rattle.codes.specs.Answers.{saysScan};
 
 // A moment and how many bytes its code takes.
-pub enum Reading {
+pub enum ScanAnswer {
     Done(Record, usize),
     Refused(Refusal),
 }
 
 // The answer, and the part of the caller's bytes that follows the code: all of them when refused.
 pub struct Taken<'a> {
-    pub answer: Reading,
+    pub answer: ScanAnswer,
     pub rest: &'a [u8],
 }
 
 // Reads a code from the front of the bytes.
 pub fn read<'a>(s: &'a [u8], p: Preamble, epoch: i64) -> Taken<'a>
-    ensures { λ r. ⌜ (saysReading (r .answer) ≡ scanOf builtin (now (s .entry)) p epoch) × (now (r .rest) ≡ drop (usedOf (scanOf builtin (now (s .entry)) p epoch)) (now (s .entry))) ⌝ }
+    ensures { λ r. ⌜ (saysScan (r .answer) ≡ scanOf builtin (now (s .entry)) p epoch) × (now (r .rest) ≡ drop (usedOf (scanOf builtin (now (s .entry)) p epoch)) (now (s .entry))) ⌝ }
 {
     let answer = scan(s, p, epoch);
     let rest = unread(s, answer);
@@ -51,22 +51,22 @@ pub fn read<'a>(s: &'a [u8], p: Preamble, epoch: i64) -> Taken<'a>
 }
 
 // The answer alone.
-pub fn scan(s: &[u8], p: Preamble, epoch: i64) -> Reading
-    ensures { λ r. ⌜ saysReading r ≡ scanOf builtin (now (s .entry)) p epoch ⌝ }
+pub fn scan(s: &[u8], p: Preamble, epoch: i64) -> ScanAnswer
+    ensures { λ r. ⌜ saysScan r ≡ scanOf builtin (now (s .entry)) p epoch ⌝ }
 {
     match pfield::read(s, p, Codes::All, epoch) {
-        Head::Refused(why) => Reading::Refused(why),
+        Head::Refused(why) => ScanAnswer::Refused(why),
         Head::Done(l, at) => field(s, at, l),
     }
 }
 
 // What follows the code that was read, or all when it was refused.
-pub fn unread<'a>(s: &'a [u8], a: Reading) -> &'a [u8]
-    ensures { λ r. ⌜ now r ≡ drop (usedOf (saysReading a)) (now (s .entry)) ⌝ }
+pub fn unread<'a>(s: &'a [u8], a: ScanAnswer) -> &'a [u8]
+    ensures { λ r. ⌜ now r ≡ drop (usedOf (saysScan a)) (now (s .entry)) ⌝ }
 {
     match a {
-        Reading::Refused(_) => s,
-        Reading::Done(_, n) => {
+        ScanAnswer::Refused(_) => s,
+        ScanAnswer::Done(_, n) => {
             if n <= s.len() {
                 return &s[n..];
             }
@@ -95,9 +95,9 @@ pub fn write_binary(r: Record, p: PField, epoch: i64, front: bool, out: &mut [u8
 }
 
 // The T-field that starts at `at`.
-fn field(s: &[u8], at: usize, l: Layout) -> Reading
+fn field(s: &[u8], at: usize, l: Layout) -> ScanAnswer
     requires { ⌜ at ≤ 1 ⌝ }
-    ensures { λ r. ⌜ saysReading r ≡ scanIn builtin (now (s .entry)) at l ⌝ }
+    ensures { λ r. ⌜ saysScan r ≡ scanIn builtin (now (s .entry)) at l ⌝ }
 {
     match l {
         Layout::Cuc(c) => ended(cuc::read(s, at, c), at + cuc::size(c)),
@@ -106,12 +106,12 @@ fn field(s: &[u8], at: usize, l: Layout) -> Reading
     }
 }
 
-fn ended(a: RecordAnswer, end: usize) -> Reading
-    ensures { λ r. ⌜ saysReading r ≡ given (scanned end) (saysRecord a) ⌝ }
+fn ended(a: RecordAnswer, end: usize) -> ScanAnswer
+    ensures { λ r. ⌜ saysScan r ≡ given (scanned end) (saysRecord a) ⌝ }
 {
     match a {
-        RecordAnswer::Refused(why) => Reading::Refused(why),
-        RecordAnswer::Done(r) => Reading::Done(r, end),
+        RecordAnswer::Refused(why) => ScanAnswer::Refused(why),
+        RecordAnswer::Done(r) => ScanAnswer::Done(r, end),
     }
 }
 

@@ -18,7 +18,7 @@ use Rattle.octets.specs.declared.Counted.{Counted}
 use Rattle.octets.specs.declared.Counted.the-variants.{Done, Bad, Out}
 use Rattle.octets.proofs.Places.{octet-rule, length-places}
 use Rattle.octets.proofs.Counts.{Read, told, read-lt, read-text, read-back}
-use Rattle.cuc.specs.Cuc.{isEpoch, isWidth, isLayout, width, timeOf, field, holds, laid, coded, bytesOf}
+use Rattle.cuc.specs.Cuc.{isEpoch, isWidth, isLayout, width, timeOf, field, holds, inOctets, coded, bytesOf}
 use Rattle.cuc.specs.Inner.{Good}
 use Rattle.cuc.specs.declared.Layout.{Layout}
 use Rattle.cuc.proofs.Layouts.{layout-good, width-is}
@@ -60,8 +60,8 @@ module _ (s : List ℕ) (at : ℕ) (l : Layout) where
     field-is c f k a b = field-by k ∙ rw (a, b)
 
     -- the octets of two counts, wherever they stand
-    pub laid-reads : (c f : ℕ) → c < 256 ^ l .coarse → f < 256 ^ l .fine → (rest : List ℕ) → at ≤ length s → drop at s ≡ laid l c f ++ rest → field s at l ≡ done (timeOf l c f)
-    unfolding laid
+    pub laid-reads : (c f : ℕ) → c < 256 ^ l .coarse → f < 256 ^ l .fine → (rest : List ℕ) → at ≤ length s → drop at s ≡ inOctets l c f ++ rest → field s at l ≡ done (timeOf l c f)
+    unfolding inOctets
     laid-reads c f p q rest a e =
         let g = layout-good l h in
         let A = octets (l .coarse) c in
@@ -112,8 +112,8 @@ module _ {s : List ℕ} {at : ℕ} {l : Layout} {m : Time} (t : Told s at l m) w
   part-lt = count-lt s (at + l .coarse) (l .fine) (t .part) (t .parts)
 
   -- its octets are those of the two counts
-  pub told-text : take (width l) (drop at s) ≡ laid l (t .whole) (t .part)
-  unfolding laid
+  pub told-text : take (width l) (drop at s) ≡ inOctets l (t .whole) (t .part)
+  unfolding inOctets
   told-text =
       rw (width-is l (t .layout), take-add (l .coarse) (l .fine) (drop at s), drop-drop (l .coarse) at s, read-text (count-told s at (l .coarse) (t .whole) (t .wholes)) octet-rule, read-text (count-told s (at + l .coarse) (l .fine) (t .part) (t .parts)) octet-rule)
 

@@ -7,7 +7,7 @@ use Rattle.base.specs.Outcome.{done, refused}
 use Rattle.base.specs.Parts.{within}
 use Rattle.scale.specs.Time.{Time, good}
 use Rattle.octets.specs.Counts.{countOf}
-use Rattle.cuc.specs.Cuc.{isWidth, width, field, holds, laid, bytesOf}
+use Rattle.cuc.specs.Cuc.{isWidth, width, field, holds, inOctets, bytesOf}
 use Rattle.cuc.specs.declared.Layout.{Layout}
 
 abbrev time : ℤ → ℕ → Time
@@ -29,7 +29,7 @@ abbrev near : Layout
 near = layout (negsuc 9) 1 0
 
 ends : map (bytesOf near) (time (negsuc 9) 0 ∷ time (pos 245) 4095999999999999 ∷ time (negsuc 10) 4095999999999999 ∷ time (pos 246) 0 ∷ time (pos 0) 4096000000000000 ∷ []) ≡ done (0 ∷ []) ∷ done (255 ∷ []) ∷ refused 7 ∷ refused 7 ∷ refused 7 ∷ []
-unfolding isWidth within holds laid bytesOf good
+unfolding isWidth within holds inOctets bytesOf good
 ends = refl
 
 -- bytes that run out; no such octets, then no such epoch, though the bytes run out too; and a record is tested before the layout

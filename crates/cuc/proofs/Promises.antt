@@ -20,7 +20,7 @@ use Rattle.octets.specs.Places.{be, octetValue}
 use Rattle.octets.specs.Counts.{countAt}
 use Rattle.octets.specs.declared.Counted.the-variants.{Done}
 use Rattle.octets.proofs.Places.{number-split}
-use Rattle.cuc.specs.Cuc.{isLayout, width, unit, timeOf, field, Reads, since, holds, partsOf, laid, coded, bytesOf, Holds}
+use Rattle.cuc.specs.Cuc.{isLayout, width, unit, timeOf, field, Reads, since, holds, partsOf, inOctets, coded, bytesOf, Holds}
 use Rattle.cuc.specs.declared.Layout.{Layout}
 use Rattle.cuc.proofs.Widths.{grain}
 use Rattle.cuc.proofs.Layouts.{layout-good, width-is}
@@ -55,7 +55,7 @@ module _ (s : List ℕ) (at : ℕ) (l : Layout) (m : Time) (e : field s at l ≡
   read-held : holds l m ≡ true
   read-held = held-so l m (says .whole) (ap (λ (t : Time). t .sec) (says .is)) (whole-lt says)
 
-  read-coded : coded l m ≡ laid l (says .whole) (says .part)
+  read-coded : coded l m ≡ inOctets l (says .whole) (says .part)
   read-coded =
       let c : plus (since l m) ≡ says .whole = ap plus (since-is l m (says .whole) (ap (λ (t : Time). t .sec) (says .is))) in
       let f : partsOf l m ≡ says .part = ap (partsOf l) (sym (says .is)) ∙ part-ticks (grain (l .fine) (says .good .short)) (says .part) in

@@ -68,12 +68,12 @@ abbrev pub partsOf : Layout → Time → ℕ
 partsOf l t = t .ticks / unit (l .fine)
 
 -- a T-field of its two counts
-unfoldable pub laid : Layout → ℕ → ℕ → List ℕ
-laid l c f = octets (l .coarse) c ++ octets (l .fine) f
+unfoldable pub inOctets : Layout → ℕ → ℕ → List ℕ
+inOctets l c f = octets (l .coarse) c ++ octets (l .fine) f
 
 -- the T-field of a time
 abbrev pub coded : Layout → Time → List ℕ
-coded l t = laid l (plus (since l t)) (partsOf l t)
+coded l t = inOctets l (plus (since l t)) (partsOf l t)
 
 -- "Writing: record 7, then .. 3, epoch 7, .. target 7"
 unfoldable pub bytesOf : Layout → Time → Outcome (List ℕ)

@@ -16,7 +16,7 @@ ghost use Rattle.scale.specs.Answers.{recorded, saysRecord};
 ghost use Rattle.octets.specs.Counts.{countAt};
 ghost use Rattle.octets.specs.Writes.{roomed, Wrote};
 ghost use Rattle.octets.specs.declared.Counted.the-variants as Counted;
-ghost use Rattle.cuc.specs.Cuc.{isEpoch, isWidth, isLayout, width, unit, timeOf, field, laid, bytesOf};
+ghost use Rattle.cuc.specs.Cuc.{isEpoch, isWidth, isLayout, width, unit, timeOf, field, inOctets, bytesOf};
 ghost use Rattle.cuc.specs.Inner.{Good, seatIn};
 
 // The epoch that a count is from, in whole TAI seconds, and the octets of its whole seconds and of its fraction.
@@ -159,7 +159,7 @@ fn put(r: Record, l: Layout, out: &mut [u8], at: usize) -> Written
 // Stores a T-field of its two counts where there is room.
 fn store(l: Layout, c: u64, f: u64, out: &mut [u8], at: usize) -> Written
     requires { ⌜ Good l ⌝ }
-    ensures { λ a. ⌜ Wrote (roomed (now (out .entry)) at (laid l c f)) at (now (out .entry)) (now (out .exit)) a ⌝ }
+    ensures { λ a. ⌜ Wrote (roomed (now (out .entry)) at (inOctets l c f)) at (now (out .entry)) (now (out .exit)) a ⌝ }
 {
     let coarse = l.coarse;
     let fine = l.fine;

@@ -1,12 +1,12 @@
 // The binary codes, read and written.
-use codes::Reading;
+use codes::ScanAnswer;
 use pfield::PField;
 use scale::Record;
 ghost use Rattle.leap.specs.Builtin.{builtin};
 ghost use Rattle.pfield.specs.PField.{octet};
 ghost use Rattle.codes.specs.Reading.{scanOf};
 ghost use Rattle.codes.specs.Writing.{writeOf, from};
-ghost use Rattle.codes.specs.Answers.{saysReading};
+ghost use Rattle.codes.specs.Answers.{saysScan};
 ghost use Rattle.honigzange.specs.Cells.{time};
 ghost use Rattle.honigzange.specs.Contracts as Contract;
 
@@ -29,12 +29,12 @@ pub extern "C" fn hz_read_binary(
 }
 
 // A reading into its cells.
-fn give(a: Reading, sec: &mut i64, ticks: &mut u64, used: &mut usize) -> u8
-    ensures { λ r. ⌜ Contract.Scans (saysReading a) r (now (sec .entry)) (now (sec .exit)) (now (ticks .entry)) (now (ticks .exit)) (now (used .entry)) (now (used .exit)) ⌝ }
+fn give(a: ScanAnswer, sec: &mut i64, ticks: &mut u64, used: &mut usize) -> u8
+    ensures { λ r. ⌜ Contract.Scans (saysScan a) r (now (sec .entry)) (now (sec .exit)) (now (ticks .entry)) (now (ticks .exit)) (now (used .entry)) (now (used .exit)) ⌝ }
 {
     match a {
-        Reading::Refused(why) => why.number(),
-        Reading::Done(r, n) => {
+        ScanAnswer::Refused(why) => why.number(),
+        ScanAnswer::Done(r, n) => {
             let whole = r.sec;
             let part = r.ticks;
             *sec = whole;

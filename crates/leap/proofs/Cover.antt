@@ -18,7 +18,7 @@ use Rattle.leap.specs.declared.Row.{Row}
 use Rattle.leap.specs.declared.Reading.{Reading}
 use Rattle.leap.specs.Table.{offFrom, offset, start, dayLength, dayHolding, covers, coversSecond, secondAt, reading, readingAt}
 use Rattle.leap.specs.Builtin.{builtin, firstDay, firstIndex, firstRaised, firstSecond, lastDay, lastIndex, lastSecond, pastRaised}
-use Rattle.leap.specs.Utc.{dayRaise, secondRaise, raisedBy, readingOf, secondOf}
+use Rattle.leap.specs.Utc.{dayRaise, secondRaise, liftedBy, readingOf, secondOf}
 use Rattle.leap.proofs.Days.{holding-le}
 use Rattle.leap.proofs.Builtin.{builtin-good, covered-days, covered-seconds, second-in, first-second, past-second, passes}
 use Rattle.leap.proofs.Outcomes.{reading-done, reading-uncovered, second-uncovered}
@@ -62,7 +62,7 @@ uncovered-day z n w a =
     let (p, q) = and-true (leb firstIndex n) (leb n lastIndex) (sym (covered-days n) ∙ c) in
     never-both (within-yes (pos firstDay) (pos lastDay) z (omega (arith, leb-true firstIndex n p)) (omega (arith, leb-true n lastIndex q))) w)
 
-pub days-out : (z : ℤ) (x : ℕ) → x ≤ 86400 → seatOf (pos firstDay) (pos lastDay) z ≡ Out → andThen (raisedBy dayRaise z) (λ n. secondOf builtin n x) ≡ refused 5
+pub days-out : (z : ℤ) (x : ℕ) → x ≤ 86400 → seatOf (pos firstDay) (pos lastDay) z ≡ Out → andThen (liftedBy dayRaise z) (λ n. secondOf builtin n x) ≡ refused 5
 unfolding secondOf
 days-out z x h e =
     raise-out dayRaise z (λ n. given (loweredBy secondRaise) (secondAt builtin n x))
@@ -98,7 +98,7 @@ second-low d x s e =
 pub reading-low : (z : ℤ) (r : Reading) → readingOf builtin z ≡ done r → (r .day ≤ lastIndex) × (r .offset ≤ 101)
 unfolding readingOf readingAt
 reading-low z r e =
-    let (s, k) = then-done (raisedBy secondRaise z) (readingAt builtin) r e in
+    let (s, k) = then-done (liftedBy secondRaise z) (readingAt builtin) r e in
     let (c, m) = need-done (coversSecond builtin s) 5 (done (reading builtin (dayHolding builtin s) (s - start builtin (dayHolding builtin s)))) r (k .1) in
     let (p, q) = and-true (leb firstRaised s) (ltb s pastRaised) (sym (covered-seconds s) ∙ c) in
     let h : dayHolding builtin s ≤ lastIndex = holding-le builtin builtin-good s lastIndex (rw first-second (leb-true firstRaised s p)) (rw past-second (ltb-true s pastRaised q)) in

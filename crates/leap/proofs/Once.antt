@@ -7,12 +7,12 @@ use Rattle.base.proofs.Once.{refusal-back, answer-once}
 use Rattle.leap.specs.declared.Reading.{Reading}
 use Rattle.leap.specs.declared.Utc.{Utc}
 use Rattle.leap.specs.declared.Day.{Day}
-use Rattle.leap.specs.Answers.{saysRaised, saysReading, saysSecond, saysUtc, saysDay}
+use Rattle.leap.specs.Answers.{saysRaised, saysReading, saysSecond, saysUtc, saysCovered}
 use Rattle.leap.specs.declared.RaisedAnswer as A
 use Rattle.leap.specs.declared.ReadingAnswer as R
 use Rattle.leap.specs.declared.SecondAnswer as S
 use Rattle.leap.specs.declared.UtcAnswer as U
-use Rattle.leap.specs.declared.DayAnswer as D
+use Rattle.leap.specs.declared.CoveredDay as D
 
 pub raised-once : (o : Outcome ℕ) (a b : A.RaisedAnswer) → saysRaised a ≡ o → saysRaised b ≡ o → a ≡ b
 raised-once =
@@ -34,7 +34,7 @@ utc-once =
     answer-once saysUtc U.the-variants.Done U.the-variants.Refused
     (elim [ U.the-variants.Done u ↦ refl | U.the-variants.Refused why ↦ ap U.the-variants.Refused (refusal-back why) ])
 
-pub day-once : (o : Outcome Day) (a b : D.DayAnswer) → saysDay a ≡ o → saysDay b ≡ o → a ≡ b
-day-once =
-    answer-once saysDay D.the-variants.Done D.the-variants.Refused
+pub covered-once : (o : Outcome Day) (a b : D.CoveredDay) → saysCovered a ≡ o → saysCovered b ≡ o → a ≡ b
+covered-once =
+    answer-once saysCovered D.the-variants.Done D.the-variants.Refused
     (elim [ D.the-variants.Done d ↦ refl | D.the-variants.Refused why ↦ ap D.the-variants.Refused (refusal-back why) ])

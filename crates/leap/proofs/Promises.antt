@@ -16,7 +16,7 @@ use Rattle.base.proofs.Steps.{below}
 use Rattle.leap.specs.declared.Reading.{Reading}
 use Rattle.leap.specs.declared.Utc.{Utc}
 use Rattle.leap.specs.Table.{Table, good, offset, start, dayLength, dayHolding, covers, coversSecond, secondAt, reading, readingAt}
-use Rattle.leap.specs.Utc.{dayRaise, offsetRaise, secondRaise, raisedBy, readingOf, secondOf, utc, utcOfSecond, secondOfUtc}
+use Rattle.leap.specs.Utc.{dayRaise, offsetRaise, secondRaise, liftedBy, readingOf, secondOf, utc, utcOfSecond, secondOfUtc}
 use Rattle.leap.proofs.Days.{start-next, length-range, start-mono, start-up, held, holding-is, holding-le}
 use Rattle.leap.proofs.Outcomes.{second-done, reading-done}
 use Rattle.leap.proofs.Raised.{raise-at, raise-is, raise-lowered}
@@ -111,7 +111,7 @@ module _ (t : Table) (g : good t ≡ true) where
   pub reading-back : (z : ℤ) (u : Reading) → readingOf t z ≡ done u → Read z u
   unfolding secondOf readingOf covers
   reading-back z u e =
-      let (s, (a, b)) = then-done (raisedBy secondRaise z) (readingAt t) u e in
+      let (s, (a, b)) = then-done (liftedBy secondRaise z) (readingAt t) u e in
       let p = reading-then-second s u b .0 in
       let w = second-is (u .day) (u .second) s p in
       record {
@@ -131,8 +131,8 @@ module _ (t : Table) (g : good t ≡ true) where
   pub tai-second : (z : ℤ) (u : Utc) → utcOfSecond t z ≡ done u → z ≡ u .day *ℤ pos 86400 +ℤ pos (u .second) +ℤ u .offset
   unfolding utcOfSecond readingOf start
   tai-second z u e =
-      let (r, (f, i)) = given-done utc (andThen (raisedBy secondRaise z) (readingAt t)) u e in
-      let (s, (a, b)) = then-done (raisedBy secondRaise z) (readingAt t) r f in
+      let (r, (f, i)) = given-done utc (andThen (liftedBy secondRaise z) (readingAt t)) u e in
+      let (s, (a, b)) = then-done (liftedBy secondRaise z) (readingAt t) r f in
       let (p, q) = reading-then-second s r b in
       let w = second-is (r .day) (r .second) s p in
       let d = loweredBy dayRaise (r .day) in
@@ -167,5 +167,5 @@ module _ (t : Table) (g : good t ≡ true) where
   unfolding utcOfSecond secondOfUtc
   second-then-utc d x z e =
       let (l, f) = need-done (leb x 86400) 4 _ z e in
-      let (n, (a, b)) = then-done (raisedBy dayRaise d) (λ n. secondOf t n x) z f in
+      let (n, (a, b)) = then-done (liftedBy dayRaise d) (λ n. secondOf t n x) z f in
       (utc (reading t n x), (ap (given utc) (second-back n x z b), lower-at dayRaise n d (raise-is dayRaise n d a), refl))

@@ -10,7 +10,7 @@ use Rattle.leap.specs.declared.RaisedAnswer as A
 use Rattle.leap.specs.declared.ReadingAnswer as R
 use Rattle.leap.specs.declared.SecondAnswer as S
 use Rattle.leap.specs.declared.UtcAnswer as U
-use Rattle.leap.specs.declared.DayAnswer as D
+use Rattle.leap.specs.declared.CoveredDay as D
 
 abbrev pub saysRaised : A.RaisedAnswer → Outcome ℕ
 saysRaised (A.the-variants.Done s) = done s
@@ -28,6 +28,6 @@ abbrev pub saysUtc : U.UtcAnswer → Outcome Utc
 saysUtc (U.the-variants.Done u) = done u
 saysUtc (U.the-variants.Refused n) = refused (number n)
 
-abbrev pub saysDay : D.DayAnswer → Outcome Day
-saysDay (D.the-variants.Done d) = done d
-saysDay (D.the-variants.Refused n) = refused (number n)
+abbrev pub saysCovered : D.CoveredDay → Outcome Day
+saysCovered (D.the-variants.Done d) = done d
+saysCovered (D.the-variants.Refused n) = refused (number n)

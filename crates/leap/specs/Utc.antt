@@ -20,12 +20,12 @@ abbrev pub secondRaise : ℕ
 secondRaise = 714779 * 86400 + 64
 
 -- z raised by B; what stays negative lies before every table: 5
-unfoldable pub raisedBy : ℕ → ℤ → Outcome ℕ
-raisedBy B z = need (leZ (negℤ (pos B)) z) 5 (done (natAbs (z +ℤ pos B)))
+unfoldable pub liftedBy : ℕ → ℤ → Outcome ℕ
+liftedBy B z = need (leZ (negℤ (pos B)) z) 5 (done (natAbs (z +ℤ pos B)))
 
 -- the reading of a TAI second, and the TAI second of a day's second
 unfoldable pub readingOf : Table → ℤ → Outcome Reading
-readingOf t z = andThen (raisedBy secondRaise z) (readingAt t)
+readingOf t z = andThen (liftedBy secondRaise z) (readingAt t)
 
 unfoldable pub secondOf : Table → ℕ → ℕ → Outcome ℤ
 secondOf t d x = given (loweredBy secondRaise) (secondAt t d x)
@@ -39,4 +39,4 @@ utcOfSecond t z = given utc (readingOf t z)
 
 -- "a second of day over 86,400 is 4, then a day outside the table 5, then 86,400 on a day without it 6"
 unfoldable pub secondOfUtc : Table → ℤ → ℕ → Outcome ℤ
-secondOfUtc t d x = need (leb x 86400) 4 (andThen (raisedBy dayRaise d) (λ n. secondOf t n x))
+secondOfUtc t d x = need (leb x 86400) 4 (andThen (liftedBy dayRaise d) (λ n. secondOf t n x))

@@ -7,7 +7,7 @@ ghost use mathlib.Core.Path.{_≡_};
 ghost use Prim.Native.Nat.{_-_, _≤_, _<_};
 ghost use Rattle.leap.specs.Table.{start, dayHolding, reading, secondAt, readingAt, dayOn, dayAt};
 ghost use Rattle.leap.specs.Utc.{readingOf, secondOf, utcOfSecond, secondOfUtc};
-ghost use Rattle.leap.specs.Answers.{saysRaised, saysReading, saysSecond, saysUtc, saysDay};
+ghost use Rattle.leap.specs.Answers.{saysRaised, saysReading, saysSecond, saysUtc, saysCovered};
 ghost use Rattle.leap.specs.Builtin.{builtin, firstIndex, pastIndex, firstRaised, pastRaised};
 ghost use Rattle.leap.specs.Inner.{rowAt, endAt, Small, OnDay, InSecond};
 
@@ -58,7 +58,7 @@ pub enum SecondAnswer {
     Refused(Refusal),
 }
 
-pub enum DayAnswer {
+pub enum CoveredDay {
     Done(Day),
     Refused(Refusal),
 }
@@ -218,16 +218,16 @@ pub fn reading_at(s: u64) -> ReadingAnswer
 }
 
 // A covered day, by its index.
-pub fn day_at(day: u64) -> DayAnswer
-    ensures { λ r. ⌜ saysDay r ≡ dayAt builtin day ⌝ }
+pub fn day_at(day: u64) -> CoveredDay
+    ensures { λ r. ⌜ saysCovered r ≡ dayAt builtin day ⌝ }
 {
     if day < FIRST_INDEX {
-        return DayAnswer::Refused(Refusal::Uncovered);
+        return CoveredDay::Refused(Refusal::Uncovered);
     }
     if PAST_INDEX <= day {
-        return DayAnswer::Refused(Refusal::Uncovered);
+        return CoveredDay::Refused(Refusal::Uncovered);
     }
-    DayAnswer::Done(day_in_row(day, row_on_day(day)))
+    CoveredDay::Done(day_in_row(day, row_on_day(day)))
 }
 
 // The row in force on a covered day. No offset is over 101: by then each row whose day has come has begun.

@@ -13,7 +13,7 @@ use borrow.Author.Tests.{le-ltb, ne-eqb}
 use Rattle.leap.specs.Builtin.{builtin}
 use Rattle.lines.specs.Answer.{answerOf}
 use Rattle.lines.specs.Split.{Fate, fate, kept, before, lastOf, answersFrom, answers, ending}
-use Rattle.lines.specs.Runs.{Run, last, more, fedAll, joined, Roomy, none, also}
+use Rattle.lines.specs.Runs.{Run, last, more, fedAll, wholeOf, Roomy, none, also}
 use Rattle.lines.proofs.Texts.{length-answer}
 use Rattle.lines.proofs.Fates.{take-join, kept-answer}
 
@@ -120,16 +120,16 @@ unfolding fate
 uses-all p [] room h = refl
 uses-all p (b ∷ s) room h = uses-at p b s room (eqb b 10) refl h (uses-all [] s (room - length (answerOf builtin p))) (uses-all (kept (p ++ b ∷ [])) s room)
 
-all-from : (p : List ℕ) (room : ℕ) (pieces : List (List ℕ)) → Roomy room pieces → fedAll builtin p room pieces ≡ answersFrom builtin p (joined pieces)
+all-from : (p : List ℕ) (room : ℕ) (pieces : List (List ℕ)) → Roomy room pieces → fedAll builtin p room pieces ≡ answersFrom builtin p (wholeOf pieces)
 unfolding answersFrom
 all-from p room [] (none h) = ending-is p room h
 all-from p room (piece ∷ pieces) (also h r) =
     let f = fate builtin p piece room in
-    let u : drop (f .used) piece ++ joined pieces ≡ joined pieces = rw (uses-all p piece room h, drop-length piece) in
-    ap (λ (l : List ℕ). f .wrote ++ l) (all-from (f .held) room pieces r ∙ ap (answersFrom builtin (f .held)) (sym u)) ∙ sym (piece-tells p piece (joined pieces) room)
+    let u : drop (f .used) piece ++ wholeOf pieces ≡ wholeOf pieces = rw (uses-all p piece room h, drop-length piece) in
+    ap (λ (l : List ℕ). f .wrote ++ l) (all-from (f .held) room pieces r ∙ ap (answersFrom builtin (f .held)) (sym u)) ∙ sym (piece-tells p piece (wholeOf pieces) room)
 
--- pieces fed one after another with room enough, and then the end: the texts joined are the answers to the joined input
-pub pieces-answers : (room : ℕ) (pieces : List (List ℕ)) → Roomy room pieces → fedAll builtin [] room pieces ≡ answers builtin (joined pieces)
+-- pieces fed one after another with room enough, and then the end: the texts wholeOf are the answers to the wholeOf input
+pub pieces-answers : (room : ℕ) (pieces : List (List ℕ)) → Roomy room pieces → fedAll builtin [] room pieces ≡ answers builtin (wholeOf pieces)
 pieces-answers room pieces r = all-from [] room pieces r
 
 -- a call with room for an answer uses something of a piece, so that feeding what is left comes to an end

@@ -17,9 +17,9 @@ abbrev pub fedAll : Table → List ℕ → ℕ → List (List ℕ) → List ℕ
 fedAll t p room [] = ending t p room
 fedAll t p room (piece ∷ pieces) = fate t p piece room .wrote ++ fedAll t (fate t p piece room .held) room pieces
 
-abbrev pub joined : List (List ℕ) → List ℕ
-joined [] = []
-joined (piece ∷ pieces) = piece ++ joined pieces
+abbrev pub wholeOf : List (List ℕ) → List ℕ
+wholeOf [] = []
+wholeOf (piece ∷ pieces) = piece ++ wholeOf pieces
 
 -- room enough for each piece, were each of its bytes a line feed
 pub data Roomy (room : ℕ) : List (List ℕ) → Type 0 where

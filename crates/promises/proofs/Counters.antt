@@ -25,7 +25,7 @@ use Rattle.pfield.specs.declared.Preamble.{Preamble}
 use Rattle.pfield.specs.declared.Preamble.the-variants.{Front, Given}
 use Rattle.pfield.specs.declared.Layout.{Layout}
 use Rattle.pfield.specs.declared.Layout.the-variants.{Cuc, Cds, Ccs}
-use Rattle.tags.specs.CucTag.{Periodic, tagOf, Names}
+use Rattle.tags.specs.CucTag.{Periodic, periodicOf, Names}
 use Rattle.tags.proofs.CucPromises.{Made, made-apart, made-front}
 use Rattle.promises.specs.Octet.{octetIn, coarse}
 use Rattle.promises.specs.Promises.{Counted}
@@ -76,7 +76,7 @@ module _ (t : Table) where
         sym (ap (λ (y : Periodic). y .period) (d .is)) ∙ ap (λ (c : ℕ). 256 ^ c) (laid-coarse o e l lays),
       )
 
-  pub tag-reads : (s : List ℕ) (p : Preamble) (e : ℤ) (g : Periodic) → tagOf s p e ≡ done g → (scanOf t s p e ≡ done (scanned (length s) (g .first))) × (g .period ≡ 256 ^ coarse (octetIn s p))
+  pub tag-reads : (s : List ℕ) (p : Preamble) (e : ℤ) (g : Periodic) → periodicOf s p e ≡ done g → (scanOf t s p e ≡ done (scanned (length s) (g .first))) × (g .period ≡ 256 ^ coarse (octetIn s p))
   unfolding scanOf
   tag-reads s (Given o) e g h =
       let (r, q) = tagged s 0 o e g (made-apart s o e g h) in
@@ -87,7 +87,7 @@ module _ (t : Table) where
       (head-front (λ h. scanIn t s (h .start) (h .layout)) All s e ∙ need-yes 1 _ (le-leb 1 (length s) (omega (arith, d .ends))) ∙ r, q)
 
   -- so it names what its listing's rule names
-  pub counted-names : (s : List ℕ) (p : Preamble) (e : ℤ) (g : Periodic) → tagOf s p e ≡ done g → (m : Time) → Counted t s p e m ↔ Names g m
+  pub counted-names : (s : List ℕ) (p : Preamble) (e : ℤ) (g : Periodic) → periodicOf s p e ≡ done g → (m : Time) → Counted t s p e m ↔ Names g m
   counted-names s p e g h m = (forth, back)
     where
       forth : Counted t s p e m → Names g m

@@ -16,7 +16,7 @@ use Rattle.scale.specs.Time.{Time}
 use Rattle.leap.specs.Table.{Table}
 use Rattle.utc.specs.Reckoning.{reckons}
 use Rattle.window.specs.Among.{Among, here, there, Ascending, first}
-use Rattle.window.specs.Window.{Listed, Named, listed, filled, leaves}
+use Rattle.window.specs.Window.{Listed, Named, listed, listFilled, leaves}
 use Rattle.tags.specs.Records.{IsListed, Sooner}
 use Rattle.tags.proofs.CucPromises as C
 use Rattle.tags.proofs.AsciiPromises as A
@@ -56,7 +56,7 @@ module _ {B : Type 0} where
 not-self : (z : ℤ) → Sooner z z → ⊥
 not-self z h = omega (arith, lt-yes z z h)
 
--- a list filled with as much of another as it has room for
+-- a list listFilled with as much of another as it has room for
 module _ (all entry : List ℤ) where
   abbrev fit : ℕ
   fit = min (length entry) (length all)
@@ -64,12 +64,12 @@ module _ (all entry : List ℤ) where
   cut-length : length (take fit all) ≡ fit
   cut-length = length-take-le fit all (omega arith)
 
-  filled-first : take fit (filled all entry) ≡ take fit all
-  unfolding filled
+  filled-first : take fit (listFilled all entry) ≡ take fit all
+  unfolding listFilled
   filled-first = take-at (take fit all) (drop fit entry) fit cut-length
 
-  filled-rest : drop fit (filled all entry) ≡ drop fit entry
-  unfolding filled
+  filled-rest : drop fit (listFilled all entry) ≡ drop fit entry
+  unfolding listFilled
   filled-rest = drop-at (take fit all) (drop fit entry) fit cut-length
 
 -- a list of all wanted moments, ascending, put into a lent list
@@ -81,13 +81,13 @@ module _ (t : Table) (tag : Shortened) (from to : Time) (x : Named ℤ) (exact :
   further = drop (fit (x .all) entry) (x .all)
 
   -- what stands in the list, and what was left over
-  in-list : (z : ℤ) → Among z (take (fit (x .all) entry) (filled (x .all) entry)) → Among z here-first
+  in-list : (z : ℤ) → Among z (take (fit (x .all) entry) (listFilled (x .all) entry)) → Among z here-first
   in-list z i = subst (Among z) (filled-first (x .all) entry) i
 
-  into-list : (z : ℤ) → Among z here-first → Among z (take (fit (x .all) entry) (filled (x .all) entry))
+  into-list : (z : ℤ) → Among z here-first → Among z (take (fit (x .all) entry) (listFilled (x .all) entry))
   into-list z i = subst (Among z) (sym (filled-first (x .all) entry)) i
 
-  left : (m : Time) → Wanted t tag from to m → (Among (m .sec) (take (fit (x .all) entry) (filled (x .all) entry)) → ⊥) → Among (m .sec) further
+  left : (m : Time) → Wanted t tag from to m → (Among (m .sec) (take (fit (x .all) entry) (listFilled (x .all) entry)) → ⊥) → Among (m .sec) further
   left m w out =
       ⊎-elim (λ (j : Among (m .sec) here-first). absurd (out (into-list (m .sec) j))) (λ (j : Among (m .sec) further). j) (among-split (fit (x .all) entry) (x .all) (exact m .1 w .1))
 
@@ -95,13 +95,13 @@ module _ (t : Table) (tag : Shortened) (from to : Time) (x : Named ℤ) (exact :
   full z j = let h = left-some (fit (x .all) entry) (x .all) j in omega arith
 
   -- one that was left over, as a moment
-  over : length entry < length (x .all) → (m : Time) × (Wanted t tag from to m × (Among (m .sec) (take (fit (x .all) entry) (filled (x .all) entry)) → ⊥))
+  over : length entry < length (x .all) → (m : Time) × (Wanted t tag from to m × (Among (m .sec) (take (fit (x .all) entry) (listFilled (x .all) entry)) → ⊥))
   over h =
       let (z, j) = some-left (fit (x .all) entry) (x .all) (omega arith) in
       let m : Time = record { sec = z; ticks = x .ticks } in
       (m, (exact m .0 (refl, among-drop (fit (x .all) entry) (x .all) j), λ i. not-self z (apart Sooner (fit (x .all) entry) (x .all) up (in-list z i) j)))
 
-  lists : Lists t tag from to entry (filled (x .all) entry) (listed entry x)
+  lists : Lists t tag from to entry (listFilled (x .all) entry) (listed entry x)
   unfolding listed
   lists =
       record {

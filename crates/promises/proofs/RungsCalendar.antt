@@ -16,7 +16,7 @@ use Rattle.scale.specs.Time.{Time}
 use Rattle.calendar.specs.Gregorian.{isDate, isOrdinal, indexOfDate, indexOfOrdinal, indexOfDay, ordinalAt, dateAt, dayOfDate, dayOfOrdinal, dateOfDay, ordinalOfDay, fromEpoch, dayIndex, dayOfYear}
 use Rattle.calendar.proofs.Promises.{ordinal-at-done, date-at-done}
 use Rattle.leap.specs.Table.{Table, covers, coversSecond, dayLength, dayHolding, start, reading, readingAt, secondAt}
-use Rattle.leap.specs.Utc.{dayRaise, secondRaise, raisedBy, readingOf, secondOf, utc, utcOfSecond, secondOfUtc}
+use Rattle.leap.specs.Utc.{dayRaise, secondRaise, liftedBy, readingOf, secondOf, utc, utcOfSecond, secondOfUtc}
 use Rattle.leap.specs.declared.Reading.{Reading}
 use Rattle.moment.specs.Moment.{moment}
 use Rattle.moment.specs.declared.Moment.{Moment}
@@ -95,7 +95,7 @@ module _ (t : Table) where
   readingHere z = let s = natAbs (z +ℤ pos secondRaise) in reading t (dayHolding t s) (s - start t (dayHolding t s))
 
   reading-climbs : (z : ℤ) → readingOf t z ≡ climb (rung 5 (coveredSecond t z) ∷ []) (readingHere z)
-  unfolding readingOf raisedBy readingAt readingHere
+  unfolding readingOf liftedBy readingAt readingHere
   reading-climbs z =
       then-need (leZ (negℤ (pos secondRaise)) z) 5 (natAbs (z +ℤ pos secondRaise)) (readingAt t)
       ∙ need-both (leZ (negℤ (pos secondRaise)) z) (coversSecond t (natAbs (z +ℤ pos secondRaise))) 5 _
@@ -116,10 +116,10 @@ module _ (t : Table) where
       ∙ ap verdict (need-yes 4 _ h)
       ∙ step (covers t n) 5 _ _ (λ c. step (ltb x (dayLength t n)) 6 _ _ (λ l. refl))
 
-  day-second : (z : ℤ) (x : ℕ) → leb x 86400 ≡ true → verdict (andThen (raisedBy dayRaise z) (λ n. secondOf t n x)) ≡ judged (rung 5 (coveredDay t z) ∷ rung 6 (hasSecond t z x) ∷ [])
-  unfolding raisedBy
+  day-second : (z : ℤ) (x : ℕ) → leb x 86400 ≡ true → verdict (andThen (liftedBy dayRaise z) (λ n. secondOf t n x)) ≡ judged (rung 5 (coveredDay t z) ∷ rung 6 (hasSecond t z x) ∷ [])
+  unfolding liftedBy
   day-second z x h =
-      after (raisedBy dayRaise z) (rung 5 (leZ (negℤ (pos dayRaise)) z) ∷ []) _ (λ n. secondOf t n x) _ refl (λ b. on-day _ x h)
+      after (liftedBy dayRaise z) (rung 5 (leZ (negℤ (pos dayRaise)) z) ∷ []) _ (λ n. secondOf t n x) _ refl (λ b. on-day _ x h)
       ∙ need-both (leZ (negℤ (pos dayRaise)) z) (covers t (indexOf z)) 5 _
       ∙ ap (λ (b : Bool). need b 5 (judged (rung 6 (hasSecond t z x) ∷ []))) (day-cover z)
 

@@ -144,10 +144,10 @@ module _ (s : List ℕ) (at : ℕ) (l : CdsLayout) (h : D.isLayout l ≡ true) w
   cdsNamed = moment (l .epoch +ℤ pos (countIn s at (l .day))) (milliIn s at l / 1000) (D.fraction (l .part) (milliIn s at l) (partIn s at l))
 
   abbrev cdsCounts : Outcome Moment
-  cdsCounts = andThen (saysCounted (countAt s at (l .day))) (λ d. andThen (saysCounted (countAt s (at + l .day) 4)) (λ m. andThen (saysCounted (countAt s (at + l .day + 4) (l .part))) (λ p. D.timed l d m p)))
+  cdsCounts = andThen (saysCounted (countAt s at (l .day))) (λ d. andThen (saysCounted (countAt s (at + l .day) 4)) (λ m. andThen (saysCounted (countAt s (at + l .day + 4) (l .part))) (λ p. D.momentBy l d m p)))
 
   cds-moment : leb (at + (l .day + 4 + l .part)) (length s) ≡ true → cdsCounts ≡ need (fieldGood s at (Cds l)) 4 (done cdsNamed)
-  unfolding D.timed
+  unfolding D.momentBy
   cds-moment t =
       let g = DL.layout-good l h in
       let k : at + (l .day + 4 + l .part) ≤ length s = leb-true _ _ t in
@@ -155,13 +155,13 @@ module _ (s : List ℕ) (at : ℕ) (l : CdsLayout) (h : D.isLayout l ≡ true) w
       let g2 = allGood octetGood (drop (at + l .day) s) 4 in
       let g3 = allGood octetGood (drop (at + l .day + 4) s) (l .part) in
       run-then 256 octetValue octetGood 8 s at (l .day) (le-leb (l .day) 8 (omega (arith, g .day)))
-      (λ d. andThen (saysCounted (countAt s (at + l .day) 4)) (λ m. andThen (saysCounted (countAt s (at + l .day + 4) (l .part))) (λ p. D.timed l d m p)))
+      (λ d. andThen (saysCounted (countAt s (at + l .day) 4)) (λ m. andThen (saysCounted (countAt s (at + l .day + 4) (l .part))) (λ p. D.momentBy l d m p)))
       (le-leb (at + l .day) (length s) (omega arith))
       ∙ ap (need g1 4) (run-then 256 octetValue octetGood 8 s (at + l .day) 4 refl
-      (λ m. andThen (saysCounted (countAt s (at + l .day + 4) (l .part))) (λ p. D.timed l (countIn s at (l .day)) m p))
+      (λ m. andThen (saysCounted (countAt s (at + l .day + 4) (l .part))) (λ p. D.momentBy l (countIn s at (l .day)) m p))
       (le-leb (at + l .day + 4) (length s) (omega arith)))
       ∙ ap (λ (y : Outcome Moment). need g1 4 (need g2 4 y)) (run-then 256 octetValue octetGood 8 s (at + l .day + 4) (l .part) (le-leb (l .part) 8 (omega (arith, g .part)))
-      (λ p. D.timed l (countIn s at (l .day)) (milliIn s at l) p)
+      (λ p. D.momentBy l (countIn s at (l .day)) (milliIn s at l) p)
       (le-leb (at + l .day + 4 + l .part) (length s) (omega arith)))
       ∙ needs-five g1 g2 g3 (leb (milliIn s at l) 86400999) (ltb (partIn s at l) (D.parts (l .part))) 4 (done cdsNamed)
       ∙ ap (λ (b : Bool). need (b && (leb (milliIn s at l) 86400999 && ltb (partIn s at l) (D.parts (l .part)))) 4 (done cdsNamed)) octets-good

@@ -28,7 +28,7 @@ use Rattle.seek.specs.declared.Tag.{Tag}
 use Rattle.tag.specs.Tags.{formed, goodTag, tagOf as wantOf}
 use Rattle.tag.proofs.Witness.{tag-4}
 use Rattle.tags.specs.AsciiTag.{covered, listWanted, listAscii}
-use Rattle.tags.specs.CucTag.{Periodic, tagWith, tagIn, tagOf, listPeriodic, listCuc}
+use Rattle.tags.specs.CucTag.{Periodic, tagWith, tagIn, periodicOf, listPeriodic, listCuc}
 use Rattle.promises.specs.Octet.{unextended}
 use Rattle.promises.specs.Rungs.{Rung, rung}
 use Rattle.promises.specs.RungsBinary.{cucEpochGood, cucOf, octetsOf}
@@ -96,7 +96,7 @@ module _ (s : List ℕ) (at : ℕ) {B : Type 0} (k : Periodic → Outcome B) (m 
       field-then (cucOf o e) (laid-good Codes.Cuc p e (Cuc (cucOf o e)) (need-yes 2 _ c ∙ cuc-laid o e c ∙ climbs-up rs (Cuc (cucOf o e)) h))))
 
 pub list-cuc-rungs : (s : List ℕ) (p : Preamble) (e : ℤ) (from to : Time) → verdict (listCuc s p e from to) ≡ judged (listCucRungs s p e from to)
-unfolding listCuc tagOf
+unfolding listCuc periodicOf
 list-cuc-rungs s Front e from to =
     ap (λ (x : Outcome Periodic). verdict (andThen x (listPeriodic from to))) (head-front (λ h. tagIn s (h .start) (h .layout)) Codes.Cuc s e)
     ∙ rise (leb 1 (length s)) 1 (andThen (laid Codes.Cuc (octet (getD s 0 0)) e) (tagIn s 1)) (listPeriodic from to) _ (λ h. tag-then s 1 (listPeriodic from to) _ (periodic-rungs from to) (octet (getD s 0 0)) e)

@@ -22,7 +22,7 @@ use Rattle.calendar.specs.Gregorian.{fromEpoch}
 use Rattle.leap.specs.Table.{Table, good, offset, start, dayLength, covers, readingAt}
 use Rattle.leap.specs.Builtin.{noRow, builtin, firstIndex, lastIndex}
 use Rattle.leap.specs.Inner.{rowAt, endAt}
-use Rattle.leap.specs.Utc.{dayRaise, secondRaise, raisedBy, readingOf, secondOf, utc, utcOfSecond}
+use Rattle.leap.specs.Utc.{dayRaise, secondRaise, liftedBy, readingOf, secondOf, utc, utcOfSecond}
 use Rattle.leap.specs.declared.Row.{Row}
 use Rattle.leap.specs.declared.Utc.{Utc}
 use Rattle.leap.proofs.Builtin.{builtin-good, later-rows, day-in, row-small, end-small}
@@ -60,8 +60,8 @@ module _ (t : Table) (g : good t ≡ true) where
   on : (z : ℤ) (u : Utc) → utcOfSecond t z ≡ done u → On z u
   unfolding utcOfSecond readingOf
   on z u e =
-      let (r, (f, i)) = given-done utc (andThen (raisedBy secondRaise z) (readingAt t)) u e in
-      let (s, (a, b)) = then-done (raisedBy secondRaise z) (readingAt t) r f in
+      let (r, (f, i)) = given-done utc (andThen (liftedBy secondRaise z) (readingAt t)) u e in
+      let (s, (a, b)) = then-done (liftedBy secondRaise z) (readingAt t) r f in
       let w = second-is t g (r .day) (r .second) s (reading-then-second t g s r b .0) in
       record {
         day = r .day;

@@ -75,35 +75,35 @@ letters b d z = Ascii (record { ordinal = b; digits = d; zone = z })
 
 -- CUC, CDS and CCS, the P octet in front or apart, by a caller's epoch or not; ASCII A and B
 cuc : Witness (Binary (octet 0x1c) (pos 0) true) (0x1c ∷ 0x6e ∷ 0xfa ∷ 0xa5 ∷ 0x24 ∷ [])
-unfolding good within allows laid laidAs cucLaid cdsLaid ccsLaid headedOf scanIn scanOf writeOf roomed countOf U.isWidth U.width U.field U.holds U.laid U.bytesOf
+unfolding good within allows laid laidAs cucLaid cdsLaid ccsLaid headedOf scanIn scanOf writeOf roomed countOf U.isWidth U.width U.field U.holds U.inOctets U.bytesOf
 cuc = record { ready = record { source = refl; settings = (_, refl); room = lit≤ tt }; written-as = refl; own = refl; reads = refl }
 
 cuc-apart : Witness (Binary (octet 0x22) (pos 1861920000) false) (36 ∷ 0 ∷ 0 ∷ [])
-unfolding good within allows laid laidAs cucLaid cdsLaid ccsLaid headedOf scanIn scanOf writeOf roomed countOf U.isWidth U.width U.field U.holds U.laid U.bytesOf
+unfolding good within allows laid laidAs cucLaid cdsLaid ccsLaid headedOf scanIn scanOf writeOf roomed countOf U.isWidth U.width U.field U.holds U.inOctets U.bytesOf
 cuc-apart = record { ready = record { source = refl; settings = (_, refl); room = lit≤ tt }; written-as = refl; own = tt; reads = refl }
 
 cds : Witness (Binary (octet 0x40) (pos 0) true) (0x40 ∷ 0x54 ∷ 0x2d ∷ 0x05 ∷ 0x26 ∷ 0x5c ∷ 0x00 ∷ [])
-unfolding good within allows laid laidAs cucLaid cdsLaid ccsLaid headedOf scanIn scanOf writeOf roomed countOf D.isWidth D.width D.timed D.field D.held D.laid D.bytesOf timeOf momentOf isMoment L.utcOfSecond L.readingOf L.raisedBy L.secondOfUtc L.secondOf readingAt coversSecond dayHolding secondAt covers dayLength start offset builtin
+unfolding good within allows laid laidAs cucLaid cdsLaid ccsLaid headedOf scanIn scanOf writeOf roomed countOf D.isWidth D.width D.momentBy D.field D.held D.inOctets D.bytesOf timeOf momentOf isMoment L.utcOfSecond L.readingOf L.liftedBy L.secondOfUtc L.secondOf readingAt coversSecond dayHolding secondAt covers dayLength start offset builtin
 cds = record { ready = record { source = refl; settings = (_, refl); room = lit≤ tt }; written-as = refl; own = refl; reads = refl }
 
 cds-apart : Witness (Binary (octet 0x49) (pos 21549) false) (0 ∷ 0 ∷ 0x05 ∷ 0x26 ∷ 0x5c ∷ 0x00 ∷ 0 ∷ 0 ∷ [])
-unfolding good within allows laid laidAs cucLaid cdsLaid ccsLaid headedOf scanIn scanOf writeOf roomed countOf D.isWidth D.width D.timed D.field D.held D.laid D.bytesOf timeOf momentOf isMoment L.utcOfSecond L.readingOf L.raisedBy L.secondOfUtc L.secondOf readingAt coversSecond dayHolding secondAt covers dayLength start offset builtin
+unfolding good within allows laid laidAs cucLaid cdsLaid ccsLaid headedOf scanIn scanOf writeOf roomed countOf D.isWidth D.width D.momentBy D.field D.held D.inOctets D.bytesOf timeOf momentOf isMoment L.utcOfSecond L.readingOf L.liftedBy L.secondOfUtc L.secondOf readingAt coversSecond dayHolding secondAt covers dayLength start offset builtin
 cds-apart = record { ready = record { source = refl; settings = (_, refl); room = lit≤ tt }; written-as = refl; own = tt; reads = refl }
 
 ccs : Witness (Binary (octet 0x58) (pos 0) true) (0x58 ∷ 0x20 ∷ 0x16 ∷ 0x03 ∷ 0x66 ∷ 0x23 ∷ 0x59 ∷ 0x60 ∷ [])
-unfolding good within allows laid laidAs cucLaid cdsLaid ccsLaid headedOf scanIn scanOf writeOf roomed countOf C.width C.dayAt C.clockAt C.field C.dateText C.clockText C.bytesOf timeOf momentOf isMoment L.utcOfSecond L.readingOf L.raisedBy L.secondOfUtc L.secondOf readingAt coversSecond dayHolding secondAt covers dayLength start offset builtin kind yearStart yearsTo row monthLength isDate isOrdinal dayIndex ordinalOn dateIn indexOfDate indexOfOrdinal indexOfDay ordinalAt
+unfolding good within allows laid laidAs cucLaid cdsLaid ccsLaid headedOf scanIn scanOf writeOf roomed countOf C.width C.dayAt C.clockAt C.field C.dateText C.clockText C.bytesOf timeOf momentOf isMoment L.utcOfSecond L.readingOf L.liftedBy L.secondOfUtc L.secondOf readingAt coversSecond dayHolding secondAt covers dayLength start offset builtin kind yearStart yearsTo row monthLength isDate isOrdinal dayIndex ordinalOn dateIn indexOfDate indexOfOrdinal indexOfDay ordinalAt
 ccs = record { ready = record { source = refl; settings = (_, refl); room = lit≤ tt }; written-as = refl; own = refl; reads = refl }
 
 ccs-apart : Witness (Binary (octet 0x51) (pos 0) false) (0x20 ∷ 0x16 ∷ 0x12 ∷ 0x31 ∷ 0x23 ∷ 0x59 ∷ 0x60 ∷ 0 ∷ [])
-unfolding good within allows laid laidAs cucLaid cdsLaid ccsLaid headedOf scanIn scanOf writeOf roomed countOf C.width C.dayAt C.clockAt C.field C.dateText C.clockText C.bytesOf timeOf momentOf isMoment L.utcOfSecond L.readingOf L.raisedBy L.secondOfUtc L.secondOf readingAt coversSecond dayHolding secondAt covers dayLength start offset builtin kind yearStart yearsTo row monthLength isDate isOrdinal dayIndex ordinalOn dateIn indexOfDate indexOfOrdinal indexOfDay ordinalAt
+unfolding good within allows laid laidAs cucLaid cdsLaid ccsLaid headedOf scanIn scanOf writeOf roomed countOf C.width C.dayAt C.clockAt C.field C.dateText C.clockText C.bytesOf timeOf momentOf isMoment L.utcOfSecond L.readingOf L.liftedBy L.secondOfUtc L.secondOf readingAt coversSecond dayHolding secondAt covers dayLength start offset builtin kind yearStart yearsTo row monthLength isDate isOrdinal dayIndex ordinalOn dateIn indexOfDate indexOfOrdinal indexOfDay ordinalAt
 ccs-apart = record { ready = record { source = refl; settings = (_, refl); room = lit≤ tt }; written-as = refl; own = tt; reads = refl }
 
 ascii-a : Witness (letters false 3 true) (bytes "2016-12-31T23:59:60.000Z")
-unfolding good within roomed A.width A.layoutOf A.dayAt A.clockAt A.fieldsOf A.text A.dayText A.clockText A.codeText A.bytesOf lettersOf shaped shapes timeOf momentOf isMoment L.utcOfSecond L.readingOf L.raisedBy L.secondOfUtc L.secondOf readingAt coversSecond dayHolding secondAt covers dayLength start offset builtin kind yearStart yearsTo row monthLength isDate isOrdinal dayIndex ordinalOn dateIn indexOfDate indexOfOrdinal indexOfDay ordinalAt
+unfolding good within roomed A.width A.layoutOf A.dayAt A.clockAt A.fieldsOf A.text A.dayText A.clockText A.codeText A.bytesOf lettersOf shaped shapes timeOf momentOf isMoment L.utcOfSecond L.readingOf L.liftedBy L.secondOfUtc L.secondOf readingAt coversSecond dayHolding secondAt covers dayLength start offset builtin kind yearStart yearsTo row monthLength isDate isOrdinal dayIndex ordinalOn dateIn indexOfDate indexOfOrdinal indexOfDay ordinalAt
 ascii-a = record { ready = record { source = refl; settings = refl; room = lit≤ tt }; written-as = refl; own = refl; reads = refl }
 
 ascii-b : Witness (letters true 0 false) (bytes "2016-366T23:59:60")
-unfolding good within roomed A.width A.layoutOf A.dayAt A.clockAt A.fieldsOf A.text A.dayText A.clockText A.codeText A.bytesOf lettersOf shaped shapes timeOf momentOf isMoment L.utcOfSecond L.readingOf L.raisedBy L.secondOfUtc L.secondOf readingAt coversSecond dayHolding secondAt covers dayLength start offset builtin kind yearStart yearsTo row monthLength isDate isOrdinal dayIndex ordinalOn dateIn indexOfDate indexOfOrdinal indexOfDay ordinalAt
+unfolding good within roomed A.width A.layoutOf A.dayAt A.clockAt A.fieldsOf A.text A.dayText A.clockText A.codeText A.bytesOf lettersOf shaped shapes timeOf momentOf isMoment L.utcOfSecond L.readingOf L.liftedBy L.secondOfUtc L.secondOf readingAt coversSecond dayHolding secondAt covers dayLength start offset builtin kind yearStart yearsTo row monthLength isDate isOrdinal dayIndex ordinalOn dateIn indexOfDate indexOfOrdinal indexOfDay ordinalAt
 ascii-b = record { ready = record { source = refl; settings = refl; room = lit≤ tt }; written-as = refl; own = refl; reads = refl }
 
 -- so the target holds the source, and the code yields the latest time
@@ -119,7 +119,7 @@ abbrev utc : ℤ → ℕ → ℤ → Outcome Utc
 utc d x o = done (record { day = d; second = x; offset = o })
 
 two-seconds : (L.utcOfSecond builtin (pos 1861920036) ≡ utc (pos 21549) 86400 (pos 36)) × (L.utcOfSecond builtin (pos 1861920037) ≡ utc (pos 21550) 0 (pos 37))
-unfolding L.utcOfSecond L.readingOf L.raisedBy readingAt coversSecond dayHolding start offset builtin
+unfolding L.utcOfSecond L.readingOf L.liftedBy readingAt coversSecond dayHolding start offset builtin
 two-seconds = (refl, refl)
 
 -- ---- the built-in cover: "days 5113 (1972-01-01) to 24836 (2025-12-31)", "Covered TAI seconds are 441,763,210 to 2,145,916,836"; 2016-12-31 has 23:59:60, and 2017-01-01 has it not
@@ -136,7 +136,7 @@ abbrev early : Time
 early = time (pos 441763209) 0
 
 outside : Refusing (Binary (octet 0x10) (pos 0) true) leap 7 × Refusing (Binary (octet 0x48) (pos 21550) true) leap 7 × Refusing (Binary (octet 0x40) (pos 0) true) early 5 × Refusing (Binary (octet 0x50) (pos 0) true) early 5 × Refusing (letters true 0 false) early 5
-unfolding good within allows laid laidAs cucLaid cdsLaid ccsLaid headedOf scanIn scanOf writeOf roomed countOf U.isWidth U.width U.field U.holds U.laid U.bytesOf D.isWidth D.width D.timed D.field D.held D.laid D.bytesOf C.width C.dayAt C.clockAt C.field C.dateText C.clockText C.bytesOf A.width A.layoutOf A.dayAt A.clockAt A.fieldsOf A.text A.dayText A.clockText A.codeText A.bytesOf lettersOf shaped shapes timeOf momentOf isMoment L.utcOfSecond L.readingOf L.raisedBy L.secondOfUtc L.secondOf readingAt coversSecond dayHolding secondAt covers dayLength start offset builtin kind yearStart yearsTo row monthLength isDate isOrdinal dayIndex ordinalOn dateIn indexOfDate indexOfOrdinal indexOfDay ordinalAt
+unfolding good within allows laid laidAs cucLaid cdsLaid ccsLaid headedOf scanIn scanOf writeOf roomed countOf U.isWidth U.width U.field U.holds U.inOctets U.bytesOf D.isWidth D.width D.momentBy D.field D.held D.inOctets D.bytesOf C.width C.dayAt C.clockAt C.field C.dateText C.clockText C.bytesOf A.width A.layoutOf A.dayAt A.clockAt A.fieldsOf A.text A.dayText A.clockText A.codeText A.bytesOf lettersOf shaped shapes timeOf momentOf isMoment L.utcOfSecond L.readingOf L.liftedBy L.secondOfUtc L.secondOf readingAt coversSecond dayHolding secondAt covers dayLength start offset builtin kind yearStart yearsTo row monthLength isDate isOrdinal dayIndex ordinalOn dateIn indexOfDate indexOfOrdinal indexOfDay ordinalAt
 outside = (
   record { ready = record { source = refl; settings = (_, refl); room = lit≤ tt }; refuses = refl },
   record { ready = record { source = refl; settings = (_, refl); room = lit≤ tt }; refuses = refl },
@@ -150,12 +150,12 @@ abbrev lent : ℕ → List ℤ
 lent n = replicate n (pos 9)
 
 counts : given (listed (lent 2)) (listBy builtin (counter (16 ∷ 0 ∷ []) Front (pos 0)) (time (pos 0) 0) (time (pos 1024) 0)) ≡ done (record { ticks = 0; count = 2; more = true })
-unfolding good within allows laid laidAs cucLaid cdsLaid ccsLaid headedOf scanIn scanOf writeOf roomed countOf U.isWidth U.width U.field U.holds U.laid U.bytesOf K.tagWith K.tagIn K.tagOf K.listPeriodic K.listCuc startAt momentsIn firstSecond counted namedIn filter consIf range up listed
+unfolding good within allows laid laidAs cucLaid cdsLaid ccsLaid headedOf scanIn scanOf writeOf roomed countOf U.isWidth U.width U.field U.holds U.inOctets U.bytesOf K.tagWith K.tagIn K.periodicOf K.listPeriodic K.listCuc startAt momentsIn firstSecond counted namedIn filter consIf range up listed
 counts = refl
 
 -- "::60" over the five seconds around 2016-12-31T23:59:60
 sixties : given (listed (lent 2)) (listBy builtin (P.letters (bytes "::60")) (time (pos 1861920034) 0) (time (pos 1861920039) 0)) ≡ done (record { ticks = 0; count = 1; more = false })
-unfolding good within timeOf momentOf isMoment L.utcOfSecond L.readingOf L.raisedBy L.secondOfUtc L.secondOf readingAt coversSecond dayHolding secondAt covers dayLength start offset builtin kind yearStart yearsTo row monthLength isDate isOrdinal dayIndex ordinalOn dateIn indexOfDate indexOfOrdinal indexOfDay ordinalAt calendarAs clockAs unzoned timeIn alone joined formed goodDay goodClock tagOf names dayFits clockFits AsciiTag.covered AsciiTag.listWanted AsciiTag.listAscii shapeOf days months hours minutes startAt momentsIn firstSecond namedIn filter consIf range up listed
+unfolding good within timeOf momentOf isMoment L.utcOfSecond L.readingOf L.liftedBy L.secondOfUtc L.secondOf readingAt coversSecond dayHolding secondAt covers dayLength start offset builtin kind yearStart yearsTo row monthLength isDate isOrdinal dayIndex ordinalOn dateIn indexOfDate indexOfOrdinal indexOfDay ordinalAt calendarAs clockAs unzoned timeIn alone joined formed goodDay goodClock tagOf names dayFits clockFits AsciiTag.covered AsciiTag.listWanted AsciiTag.listAscii shapeOf days months hours minutes startAt momentsIn firstSecond namedIn filter consIf range up listed
 sixties = refl
 
 -- ---- each call ends with a result, and each is refused: among them all nine numbers
@@ -170,7 +170,7 @@ results : answers
     ∷ P.readBinary (0x1c ∷ 0x6e ∷ 0xfa ∷ 0xa5 ∷ 0x24 ∷ []) true 0 (pos 0) ∷ P.writeBinary leap true 0x1c (pos 0) room ∷ P.readAscii (bytes "2016-12-31T23:59:60") ∷ P.writeAscii leap (layout 12) room ∷ P.writeWall leap room
     ∷ P.listCuc (16 ∷ 0 ∷ []) true 0 (pos 0) (time (pos 0) 0) (time (pos 9) 0) ∷ P.listAscii (bytes "::60") leap leap ∷ [])
     ≡ replicate 15 0
-unfolding good within allows laid laidAs cucLaid cdsLaid ccsLaid headedOf scanIn scanOf writeOf roomed countOf U.isWidth U.width U.field U.holds U.laid U.bytesOf A.width A.layoutOf A.dayAt A.clockAt A.fieldsOf A.text A.dayText A.clockText A.codeText A.bytesOf lettersOf shaped shapes timeOf momentOf isMoment L.utcOfSecond L.readingOf L.raisedBy L.secondOfUtc L.secondOf readingAt coversSecond dayHolding secondAt covers dayLength start offset builtin kind yearStart yearsTo row monthLength isDate isOrdinal dayIndex ordinalOn dateIn indexOfDate indexOfOrdinal indexOfDay ordinalAt K.tagWith K.tagIn K.tagOf K.listPeriodic K.listCuc startAt momentsIn firstSecond counted namedIn filter consIf range up calendarAs clockAs unzoned timeIn alone joined formed goodDay goodClock tagOf names dayFits clockFits AsciiTag.covered AsciiTag.listWanted AsciiTag.listAscii shapeOf days months hours minutes
+unfolding good within allows laid laidAs cucLaid cdsLaid ccsLaid headedOf scanIn scanOf writeOf roomed countOf U.isWidth U.width U.field U.holds U.inOctets U.bytesOf A.width A.layoutOf A.dayAt A.clockAt A.fieldsOf A.text A.dayText A.clockText A.codeText A.bytesOf lettersOf shaped shapes timeOf momentOf isMoment L.utcOfSecond L.readingOf L.liftedBy L.secondOfUtc L.secondOf readingAt coversSecond dayHolding secondAt covers dayLength start offset builtin kind yearStart yearsTo row monthLength isDate isOrdinal dayIndex ordinalOn dateIn indexOfDate indexOfOrdinal indexOfDay ordinalAt K.tagWith K.tagIn K.periodicOf K.listPeriodic K.listCuc startAt momentsIn firstSecond counted namedIn filter consIf range up calendarAs clockAs unzoned timeIn alone joined formed goodDay goodClock tagOf names dayFits clockFits AsciiTag.covered AsciiTag.listWanted AsciiTag.listAscii shapeOf days months hours minutes
 results = refl
 
 refusals : answers
@@ -178,5 +178,5 @@ refusals : answers
     ∷ P.readBinary (0x1c ∷ 0x6e ∷ []) true 0 (pos 0) ∷ P.writeBinary leap true 0x60 (pos 0) room ∷ P.readAscii (bytes "2016-12-31T12:00:60") ∷ P.writeAscii leap (layout 13) room ∷ P.writeWall leap (7 ∷ [])
     ∷ P.listCuc (16 ∷ 0 ∷ []) true 0 (pos 0) (time (pos 9) 0) (time (pos 0) 0) ∷ P.listAscii (bytes "::60") early leap ∷ [])
     ≡ 7 ∷ 7 ∷ 4 ∷ 7 ∷ 4 ∷ 7 ∷ 5 ∷ 6 ∷ 1 ∷ 2 ∷ 4 ∷ 3 ∷ 8 ∷ 9 ∷ 5 ∷ []
-unfolding good within allows laid laidAs cucLaid cdsLaid ccsLaid headedOf scanIn scanOf writeOf roomed countOf U.isWidth U.width U.field U.holds U.laid U.bytesOf A.width A.layoutOf A.dayAt A.clockAt A.fieldsOf A.text A.dayText A.clockText A.codeText A.bytesOf lettersOf shaped shapes timeOf momentOf isMoment L.utcOfSecond L.readingOf L.raisedBy L.secondOfUtc L.secondOf readingAt coversSecond dayHolding secondAt covers dayLength start offset builtin kind yearStart yearsTo row monthLength isDate isOrdinal dayIndex ordinalOn dateIn indexOfDate indexOfOrdinal indexOfDay ordinalAt K.tagWith K.tagIn K.tagOf K.listPeriodic K.listCuc startAt momentsIn firstSecond counted namedIn filter consIf range up calendarAs clockAs unzoned timeIn alone joined formed goodDay goodClock tagOf names dayFits clockFits AsciiTag.covered AsciiTag.listWanted AsciiTag.listAscii shapeOf days months hours minutes
+unfolding good within allows laid laidAs cucLaid cdsLaid ccsLaid headedOf scanIn scanOf writeOf roomed countOf U.isWidth U.width U.field U.holds U.inOctets U.bytesOf A.width A.layoutOf A.dayAt A.clockAt A.fieldsOf A.text A.dayText A.clockText A.codeText A.bytesOf lettersOf shaped shapes timeOf momentOf isMoment L.utcOfSecond L.readingOf L.liftedBy L.secondOfUtc L.secondOf readingAt coversSecond dayHolding secondAt covers dayLength start offset builtin kind yearStart yearsTo row monthLength isDate isOrdinal dayIndex ordinalOn dateIn indexOfDate indexOfOrdinal indexOfDay ordinalAt K.tagWith K.tagIn K.periodicOf K.listPeriodic K.listCuc startAt momentsIn firstSecond counted namedIn filter consIf range up calendarAs clockAs unzoned timeIn alone joined formed goodDay goodClock tagOf names dayFits clockFits AsciiTag.covered AsciiTag.listWanted AsciiTag.listAscii shapeOf days months hours minutes
 refusals = refl

@@ -3,8 +3,8 @@
 use base::Refusal;
 use calendar::DateAnswer;
 use calendar::OrdinalAnswer;
+use leap::CoveredDay;
 use leap::Day;
-use leap::DayAnswer;
 use leap::Reading;
 use leap::ReadingAnswer;
 use window::Found;
@@ -156,8 +156,8 @@ fn span_of(day: u64) -> Day
     ensures { λ r. ⌜ r ≡ dayOn builtin day ⌝ }
 {
     match leap::day_at(day) {
-        DayAnswer::Done(d) => d,
-        DayAnswer::Refused(_) => Day {
+        CoveredDay::Done(d) => d,
+        CoveredDay::Refused(_) => Day {
             start: 0,
             length: 0,
         },

@@ -33,8 +33,8 @@ use Rattle.pfield.specs.declared.Preamble.the-variants.{Front, Given}
 use Rattle.pfield.specs.declared.Layout.{Layout}
 use Rattle.pfield.specs.declared.Layout.the-variants.{Cuc, Cds, Ccs}
 use Rattle.pfield.proofs.Layouts.{laid-good}
-use Rattle.tags.specs.Records.{momentsIn, IsListed, Inside, Sooner, joined}
-use Rattle.tags.specs.CucTag.{Periodic, tagWith, tagIn, tagOf, listPeriodic, listCuc, Names, CutTo}
+use Rattle.tags.specs.Records.{momentsIn, IsListed, Inside, Sooner, followed}
+use Rattle.tags.specs.CucTag.{Periodic, tagWith, tagIn, periodicOf, listPeriodic, listCuc, Names, CutTo}
 use Rattle.tags.specs.Inner.{Short}
 use Rattle.tags.proofs.Windows.{Ordered, windowed-told, windowed-yes, ordered-then}
 use Rattle.tags.proofs.Records.{inside-valid, listed-named, named-listed, ascends, adjoins}
@@ -47,11 +47,11 @@ abbrev moments : Periodic → Time → Time → Named ℤ
 moments g from to = momentsIn (2 ^ 41) (names (raisedBy (2 ^ 41) (g .first .sec)) (g .period)) (g .first .ticks) from to
 
 -- what is listed is listed of a tag
-pub lists-tag : (s : List ℕ) (p : Preamble) (e : ℤ) (from to : Time) (x : Named ℤ) → listCuc s p e from to ≡ done x → (g : Periodic) × (tagOf s p e ≡ done g)
+pub lists-tag : (s : List ℕ) (p : Preamble) (e : ℤ) (from to : Time) (x : Named ℤ) → listCuc s p e from to ≡ done x → (g : Periodic) × (periodicOf s p e ≡ done g)
 unfolding listCuc
-lists-tag s p e from to x h = let (g, (says, _)) = then-done (tagOf s p e) (listPeriodic from to) x h in (g, says)
+lists-tag s p e from to x h = let (g, (says, _)) = then-done (periodicOf s p e) (listPeriodic from to) x h in (g, says)
 
-module _ (s : List ℕ) (p : Preamble) (e : ℤ) (g : Periodic) (says : tagOf s p e ≡ done g) where
+module _ (s : List ℕ) (p : Preamble) (e : ℤ) (g : Periodic) (says : periodicOf s p e ≡ done g) where
   lists-of : (from to : Time) → listCuc s p e from to ≡ listPeriodic from to g
   unfolding listCuc
   lists-of from to = ap (λ (x : Outcome Periodic). andThen x (listPeriodic from to)) says
@@ -106,7 +106,7 @@ module _ (s : List ℕ) (p : Preamble) (e : ℤ) (g : Periodic) (says : tagOf s 
     lists-ticks = sym (ap (λ (y : Named ℤ). y .ticks) (listed-of from to x h .1))
 
   -- the list of a window followed by that of the adjoining one is the list of both
-  pub lists-adjoin : (a b c : Time) (x y : Named ℤ) → listCuc s p e a b ≡ done x → listCuc s p e b c ≡ done y → listCuc s p e a c ≡ done (joined x y)
+  pub lists-adjoin : (a b c : Time) (x y : Named ℤ) → listCuc s p e a b ≡ done x → listCuc s p e b c ≡ done y → listCuc s p e a c ≡ done (followed x y)
   lists-adjoin a b c x y h i =
       let (o, f) = listed-of a b x h in
       let (r, k) = listed-of b c y i in
@@ -150,15 +150,15 @@ made-in s at o e (Cds l) g p h = never 2 g h
 made-in s at o e (Ccs l) g p h = never 2 g h
 
 -- supplied apart, or read from the front
-pub made-apart : (s : List ℕ) (o : PField) (e : ℤ) (g : Periodic) → tagOf s (Given o) e ≡ done g → Made s 0 o e g
-unfolding tagOf
+pub made-apart : (s : List ℕ) (o : PField) (e : ℤ) (g : Periodic) → periodicOf s (Given o) e ≡ done g → Made s 0 o e g
+unfolding periodicOf
 made-apart s o e g h =
     let (k, (p, i)) = then-done (headedOf Codes.Cuc s (Given o) e) (λ (k : Headed). tagIn s (k .start) (k .layout)) g h in
     let (a, b) = given-head Codes.Cuc e s o k p in
     made-in s 0 o e (k .layout) g a (ap (λ (n : ℕ). tagIn s n (k .layout)) (sym b) ∙ i)
 
-pub made-front : (s : List ℕ) (e : ℤ) (g : Periodic) → tagOf s Front e ≡ done g → Made s 1 (octet (getD s 0 0)) e g
-unfolding tagOf
+pub made-front : (s : List ℕ) (e : ℤ) (g : Periodic) → periodicOf s Front e ≡ done g → Made s 1 (octet (getD s 0 0)) e g
+unfolding periodicOf
 made-front s e g h =
     let (k, (p, i)) = then-done (headedOf Codes.Cuc s Front e) (λ (k : Headed). tagIn s (k .start) (k .layout)) g h in
     let (_, a, b) = octet-head Codes.Cuc e s k p in

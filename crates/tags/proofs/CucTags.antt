@@ -28,7 +28,7 @@ use Rattle.pfield.specs.declared.Preamble.{Preamble}
 use Rattle.pfield.specs.declared.Layout.{Layout}
 use Rattle.pfield.specs.declared.Layout.the-variants.{Cuc, Cds, Ccs}
 use Rattle.tags.specs.Records.{startAt, momentsIn}
-use Rattle.tags.specs.CucTag.{Periodic, tagWith, tagIn, tagOf, listPeriodic}
+use Rattle.tags.specs.CucTag.{Periodic, tagWith, tagIn, periodicOf, listPeriodic}
 use Rattle.tags.specs.Inner.{Short}
 use Rattle.tags.proofs.Windows.{Ordered, windowed-yes, start-low}
 
@@ -74,8 +74,8 @@ tag-in s at (Cuc l) g h = tag-with s at l g h
 tag-in s at (Cds l) g h = never 2 g h
 tag-in s at (Ccs l) g h = never 2 g h
 
-pub tag-good : (s : List ℕ) (p : Preamble) (e : ℤ) (g : Periodic) → tagOf s p e ≡ done g → Short g
-unfolding tagOf
+pub tag-good : (s : List ℕ) (p : Preamble) (e : ℤ) (g : Periodic) → periodicOf s p e ≡ done g → Short g
+unfolding periodicOf
 tag-good s p e g h =
     let (k, (_, i)) = then-done (headedOf Codes.Cuc s p e) (λ (k : Headed). tagIn s (k .start) (k .layout)) g h in
     tag-in s (k .start) (k .layout) g i

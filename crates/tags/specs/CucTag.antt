@@ -35,8 +35,8 @@ tagIn s at (L.Cds l) = refused 2
 tagIn s at (L.Ccs l) = refused 2
 
 -- "the tag as in reading up to 4", but "in a listing any but CUC" is 2
-unfoldable pub tagOf : List ℕ → Preamble → ℤ → Outcome Periodic
-tagOf s p e = andThen (headedOf Cuc s p e) (λ h. tagIn s (h .start) (h .layout))
+unfoldable pub periodicOf : List ℕ → Preamble → ℤ → Outcome Periodic
+periodicOf s p e = andThen (headedOf Cuc s p e) (λ h. tagIn s (h .start) (h .layout))
 
 -- what is listed of a window, seconds being raised by 2^41
 unfoldable pub listPeriodic : Time → Time → Periodic → Outcome (Named ℤ)
@@ -45,7 +45,7 @@ listPeriodic from to g =
     (done (momentsIn (2 ^ 41) (names (raisedBy (2 ^ 41) (g .first .sec)) (g .period)) (g .first .ticks) from to))
 
 unfoldable pub listCuc : List ℕ → Preamble → ℤ → Time → Time → Outcome (Named ℤ)
-listCuc s p e from to = andThen (tagOf s p e) (listPeriodic from to)
+listCuc s p e from to = andThen (periodicOf s p e) (listPeriodic from to)
 
 -- ---- in the words of records, for the theorems
 -- m is k periods after the first, for some k

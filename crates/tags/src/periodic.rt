@@ -8,7 +8,7 @@ use scale::Record;
 use scale::RecordAnswer;
 ghost use mathlib.Core.Path.{_≡_};
 ghost use Prim.Native.Nat.{_≤_};
-ghost use Rattle.tags.specs.CucTag.{tagWith, tagIn, tagOf};
+ghost use Rattle.tags.specs.CucTag.{tagWith, tagIn, periodicOf};
 ghost use Rattle.tags.specs.Inner.{saysPeriodic};
 
 pub enum Periodic {
@@ -17,7 +17,7 @@ pub enum Periodic {
 }
 
 pub fn read(tag: &[u8], p: Preamble, epoch: i64) -> Periodic
-    ensures { λ r. ⌜ saysPeriodic r ≡ tagOf (now (tag .entry)) p epoch ⌝ }
+    ensures { λ r. ⌜ saysPeriodic r ≡ periodicOf (now (tag .entry)) p epoch ⌝ }
 {
     match pfield::read(tag, p, Codes::Cuc, epoch) {
         Head::Refused(why) => Periodic::Refused(why),

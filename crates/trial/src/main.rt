@@ -1,7 +1,7 @@
 // A program for the gate, which holds what it prints to the file `stdout`. It runs what no call of the C interface does:
 // the reader that hands back the part that follows, settings as one value, and the makers of records and spans.
 // Standard input is binary codes end to end, each behind its P octet.
-use codes::Reading;
+use codes::ScanAnswer;
 use codes::setting::Setting;
 use octets::Written;
 use pfield::PField;
@@ -41,12 +41,12 @@ fn step(s: &[u8], p: Preamble, epoch: i64) -> usize {
 }
 
 // A line for what was read: the number of bytes that follow, and the moment or the refusal.
-fn tell(answer: Reading, rest: &[u8]) -> usize {
+fn tell(answer: ScanAnswer, rest: &[u8]) -> usize {
     let left = rest.len();
     io::print_decimal(libc::STDOUT_FILENO, left as u64);
     match answer {
-        Reading::Refused(why) => refuse(why.number()),
-        Reading::Done(r, _) => show(r),
+        ScanAnswer::Refused(why) => refuse(why.number()),
+        ScanAnswer::Done(r, _) => show(r),
     }
     end_line();
     left

@@ -16,7 +16,7 @@ use Rattle.scale.proofs.Laws.{within-good, record-ticks}
 use Rattle.calendar.specs.Gregorian.{indexOfDay}
 use Rattle.calendar.proofs.Numbers.{index-of-number}
 use Rattle.leap.specs.Table.{Table, good, start, coversSecond, reading, dayHolding, readingAt}
-use Rattle.leap.specs.Utc.{secondRaise, raisedBy, readingOf, utc, utcOfSecond, secondOfUtc}
+use Rattle.leap.specs.Utc.{secondRaise, liftedBy, readingOf, utc, utcOfSecond, secondOfUtc}
 use Rattle.leap.specs.declared.Utc.{Utc}
 use Rattle.leap.proofs.Promises.{reading-back, utc-then-second, second-then-utc}
 use Rattle.leap.proofs.Raised.{raise-is}
@@ -89,7 +89,7 @@ module _ (t : Table) (g : reckons t ≡ true) where
   unfolding utcOfSecond readingOf readingAt coversSecond
   second-bounds z u e k l =
       let (r, (f, i)) = given-done utc _ u e in
-      let (s, (a, b)) = then-done (raisedBy secondRaise z) _ r f in
+      let (s, (a, b)) = then-done (liftedBy secondRaise z) _ r f in
       let (c, m) = need-done (leb (start t (t .first .day)) s && ltb s (start t (t .last + 1))) 5 _ r b in
       let h = ltb-true s (start t (t .last + 1)) (and-true (leb (start t (t .first .day)) s) _ c .1) in
       let w = raise-is secondRaise s z a in

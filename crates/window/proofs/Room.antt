@@ -13,7 +13,7 @@ use Rattle.base.specs.Outcome.{done, refused}
 use Rattle.base.specs.Refusals.{number}
 use Rattle.base.specs.declared.Refusal.{Refusal}
 use Rattle.base.specs.Outcome.{Outcome}
-use Rattle.window.specs.Window.{Listed, Named, listed, filled, Lists}
+use Rattle.window.specs.Window.{Listed, Named, listed, listFilled, Lists}
 use Rattle.window.specs.declared.Listing.the-variants.{Done, Refused}
 
 module _ {A : Type 0} where
@@ -46,8 +46,8 @@ module _ {A : Type 0} where
       ap length (sym (f .cut)) ∙ (length-append (take n out) rest ∙ ap (λ (k : ℕ). k + length rest) (length-take-le n out g))
 
   -- what is written is all's first n, so the memory is all's first n and the rest of what it was
-  memory-is : {all rest : List A} {n : ℕ} {entry out : List A} → Filling all rest n entry out → min (length entry) (length all) ≡ n → out ≡ filled all entry
-  unfolding filled
+  memory-is : {all rest : List A} {n : ℕ} {entry out : List A} → Filling all rest n entry out → min (length entry) (length all) ≡ n → out ≡ listFilled all entry
+  unfolding listFilled
   memory-is {all} {rest} {n} {entry} {out} f e =
       let g : n ≤ length out = omega (arith, f .same, f .roomy) in
       rw e

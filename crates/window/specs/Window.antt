@@ -64,12 +64,12 @@ module _ {A : Type 0} where
   listed entry x = record { ticks = x .ticks; count = min (length entry) (length (x .all)); more = ltb (length entry) (length (x .all)) }
 
   -- the earliest ones fill the lent list; "Elements beyond the number listed stay"
-  unfoldable pub filled : List A → List A → List A
-  filled all entry =
+  unfoldable pub listFilled : List A → List A → List A
+  listFilled all entry =
       take (min (length entry) (length all)) all ++ drop (min (length entry) (length all)) entry
 
   abbrev pub leaves : Outcome (Named A) → List A → List A
-  leaves (done x) entry = filled (x .all) entry
+  leaves (done x) entry = listFilled (x .all) entry
   leaves (refused n) entry = entry
 
   -- what a lister owes: the paper's outcome, and the lent list as it leaves it

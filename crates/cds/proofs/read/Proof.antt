@@ -93,8 +93,8 @@ number-requires-3 c κs =
     let g = good (b .before .before) in
     (omega (arith, g .part), omega (arith, room b))
 
-timed-requires : tie.Need-timed-requires
-timed-requires c κs =
+moment-by-requires : tie.Need-moment-by-requires
+moment-by-requires c κs =
     let b = c .before .before .before in
     let a = from (b .before .before) .args in
     let g = good (b .before .before) in
@@ -105,7 +105,7 @@ returns-4 c =
     let n = c .before in
     let b = n .before .before .before in
     let a = from (b .before .before) .args in
-    c .timed .ensures
+    c .moment-by .ensures
     ∙ sym (field-is (a .s .now) (a .at) (a .l) (ok (b .before .before)) _ _ _ (room b) (n .before .before .number .ensures) (n .before .number2 .ensures) (n .number3 .ensures))
 
 pub read-spec : {M : Type 1} → statement M
@@ -126,5 +126,5 @@ read-spec =
     add-number-2
     add-number-3
     number-requires-3
-    timed-requires
+    moment-by-requires
     returns-4)

@@ -1,5 +1,5 @@
 -- `codes::read` meets its contract: a walk of its MIR, by hand. `scan` answers, `unread` gives what follows, and the two are put into the struct. All that the proof knows of the two is that each meets its contract.
--- A `&[u8]` and a `Reading` are Copy: what each owns is had once for each use. What p and epoch own are facts, made anew.
+-- A `&[u8]` and a `ScanAnswer` are Copy: what each owns is had once for each use. What p and epoch own are facts, made anew.
 use mathlib.Core.Path.{_≡_, refl, ap, sym, _∙_}
 use Prim.Native.Nat.{ℕ, _<_, _^_}
 use mathlib.Core.List.{List, [], _∷_}
@@ -46,14 +46,14 @@ use denote.Triple.Clauses.{ensured, lasts}
 use Rattle.base.specs.Outcome.{Outcome}
 use Rattle.leap.specs.Builtin.{builtin}
 use Rattle.codes.specs.Reading.{Scanned, scanOf, usedOf}
-use Rattle.codes.specs.Answers.{saysReading}
+use Rattle.codes.specs.Answers.{saysScan}
 use Rattle.codes.specs.declared.Taken.{Taken}
-use Rattle.codes.specs.declared.Reading.{Reading}
+use Rattle.codes.specs.declared.ScanAnswer.{ScanAnswer}
 use Rattle.pfield.specs.declared.Preamble.{Preamble}
 use Rattle.codes.proofs.Taken as T
 use Rattle.codes.proofs.Taken.Laws as T′
-use Rattle.codes.proofs.Reading as R
-use Rattle.codes.proofs.Reading.Laws as R′
+use Rattle.codes.proofs.ScanAnswer as R
+use Rattle.codes.proofs.ScanAnswer.Laws as R′
 use Rattle.pfield.proofs.Preamble as P
 use Rattle.pfield.proofs.Preamble.Laws as P′
 use Rattle.codes.proofs.scan as scan
@@ -117,14 +117,14 @@ module _ {M : Type 1} (𝓤 : URA M) (H : Heap 𝓤) (A : Atoms 𝓤) (W : Given
       move ! (1 ∷ []) $ fsplit ! $ use1 W (‵ Own ⊛ ‵ Own) (shr-slice-copy 𝓤 H A W (named 0) κ u8 .twice s (v ∷ [])) $ split ! $
       move ! (0 ∷ 2 ∷ []) $ fjoin ! $ move ! (2 ∷ 0 ∷ []) $ use2 W (raw (Scan 𝓤 H A mem run .pre to-scan)) (qed W ((‵ (flft κ q) ⊛ ‵ ftrue) ∷ ‵ (owns (ShrSlice (named 0) κ u8 ∷ P.the-row ∷ i64 ∷ []) (s, (p, (e, tt))) vals) ∷ []) ∵ join ! $ frame ! $ done !) $ frame ! $ done !
 
-  scan-said : (r : Reading) → ent 𝓤 (ensured 𝓤 H A scan.ended (scan.clauses 𝓤 H A mem run) (κ, tt) (s, (p, (e, tt))) tt r) (fact 𝓤 (saysReading r ≡ found))
-  scan-said r = exE 𝓤 _ (λ ws. snd∗ 𝓤 (sem 𝓤 H A (lasts scan.ended (κ, tt) (s, (p, (e, tt))) ws)) (fact 𝓤 (saysReading r ≡ found)))
+  scan-said : (r : ScanAnswer) → ent 𝓤 (ensured 𝓤 H A scan.ended (scan.clauses 𝓤 H A mem run) (κ, tt) (s, (p, (e, tt))) tt r) (fact 𝓤 (saysScan r ≡ found))
+  scan-said r = exE 𝓤 _ (λ ws. snd∗ 𝓤 (sem 𝓤 H A (lasts scan.ended (κ, tt) (s, (p, (e, tt))) ws)) (fact 𝓤 (saysScan r ≡ found)))
 
   -- the call of `unread`, at the answer r with the machine value u
-  abbrev to-unread : Reading → Val → Unread 𝓤 H A mem run .Ghost
+  abbrev to-unread : ScanAnswer → Val → Unread 𝓤 H A mem run .Ghost
   to-unread r u = (((κ, tt), (q, tt), tt, (s, (r, tt)), (v ∷ [], (u ∷ [], tt))), tt)
 
-  goes-unread : (r : Reading) (u : Val) → ent 𝓤 (⋆ 𝓤 H A (‵ (R.the-row .own r (u ∷ [])) ∷ (‵ (flft κ q) ⊛ ‵ ftrue) ∷ ‵ Own ∷ [])) (sep 𝓤 (Unread 𝓤 H A mem run .pre (to-unread r u)) (sep 𝓤 (sem 𝓤 H A (R.the-row .own r (u ∷ []))) (sem 𝓤 H A Own)))
+  goes-unread : (r : ScanAnswer) (u : Val) → ent 𝓤 (⋆ 𝓤 H A (‵ (R.the-row .own r (u ∷ [])) ∷ (‵ (flft κ q) ⊛ ‵ ftrue) ∷ ‵ Own ∷ [])) (sep 𝓤 (Unread 𝓤 H A mem run .pre (to-unread r u)) (sep 𝓤 (sem 𝓤 H A (R.the-row .own r (u ∷ []))) (sem 𝓤 H A Own)))
   goes-unread r u =
       qed W (‵ (R.the-row .own r (u ∷ [])) ∷ (‵ (flft κ q) ⊛ ‵ ftrue) ∷ ‵ Own ∷ []) ∵
       use1 W (‵ (R.the-row .own r (u ∷ [])) ⊛ ‵ (R.the-row .own r (u ∷ []))) (EL.copy R.the-type R′.the-copy 𝓤 H A W .twice r (u ∷ [])) $ split ! $
@@ -133,20 +133,20 @@ module _ {M : Type 1} (𝓤 : URA M) (H : Heap 𝓤) (A : Atoms 𝓤) (W : Given
       move ! (2 ∷ []) $ nothing ! $ move ! (1 ∷ 0 ∷ []) $ fjoin ! $ move ! (1 ∷ 0 ∷ []) $ fjoin ! $ move ! (3 ∷ 0 ∷ []) $
       use2 W (raw (Unread 𝓤 H A mem run .pre (to-unread r u))) (qed W ((‵ (flft κ q) ⊛ ‵ ftrue) ∷ ‵ (owns (ShrSlice (named 0) κ u8 ∷ R.the-row ∷ []) (s, (r, tt)) (v ∷ [], (u ∷ [], tt))) ∷ []) ∵ join ! $ frame ! $ done !) $ frame ! $ move ! (1 ∷ 0 ∷ []) $ done !
 
-  unread-said : (r : Reading) (t : RefT (List ℕ)) → ent 𝓤 (ensured 𝓤 H A unread.ended (unread.clauses 𝓤 H A mem run) (κ, tt) (s, (r, tt)) tt t) (fact 𝓤 (now t ≡ drop (usedOf (saysReading r)) (now s)))
-  unread-said r t = exE 𝓤 _ (λ ws. snd∗ 𝓤 (sem 𝓤 H A (lasts unread.ended (κ, tt) (s, (r, tt)) ws)) (fact 𝓤 (now t ≡ drop (usedOf (saysReading r)) (now s))))
+  unread-said : (r : ScanAnswer) (t : RefT (List ℕ)) → ent 𝓤 (ensured 𝓤 H A unread.ended (unread.clauses 𝓤 H A mem run) (κ, tt) (s, (r, tt)) tt t) (fact 𝓤 (now t ≡ drop (usedOf (saysScan r)) (now s)))
+  unread-said r t = exE 𝓤 _ (λ ws. snd∗ 𝓤 (sem 𝓤 H A (lasts unread.ended (κ, tt) (s, (r, tt)) ws)) (fact 𝓤 (now t ≡ drop (usedOf (saysScan r)) (now s))))
 
   -- the struct that is made, and its machine value
-  abbrev made : Reading → RefT (List ℕ) → Taken
+  abbrev made : ScanAnswer → RefT (List ℕ) → Taken
   made r t = record { answer = r; rest = t }
 
   abbrev mach : Val → Val → Val
   mach u w = vstruct (vcons u (vcons w vnil))
 
-  made-is : (r : Reading) (t : RefT (List ℕ)) (u w : Val) → Is R.the-row r (u ∷ []) → Is (ShrSlice (named 0) κ u8) t (w ∷ []) → Is (T.the-row α) (made r t) (mach u w ∷ [])
+  made-is : (r : ScanAnswer) (t : RefT (List ℕ)) (u w : Val) → Is R.the-row r (u ∷ []) → Is (ShrSlice (named 0) κ u8) t (w ∷ []) → Is (T.the-row α) (made r t) (mach u w ∷ [])
   made-is r t u w i j = ((u ∷ [], (w ∷ [], tt)), (refl, (i, (j, tt))))
 
-  exits : (r : Reading) (t : RefT (List ℕ)) (u w : Val) → (saysReading r ≡ found) × (now t ≡ drop (usedOf found) (now s))
+  exits : (r : ScanAnswer) (t : RefT (List ℕ)) (u w : Val) → (saysScan r ≡ found) × (now t ≡ drop (usedOf found) (now s))
       → ent 𝓤 (⋆ 𝓤 H A (‵ (ShrSlice (named 0) κ u8 .own t (w ∷ [])) ∷ (‵ (flft κ q) ⊛ ‵ ftrue) ∷ ‵ (R.the-row .own r (u ∷ [])) ∷ ‵ Own ∷ [])) (Post (mach u w))
   exits r t u w e′ =
       qed W (‵ (ShrSlice (named 0) κ u8 .own t (w ∷ [])) ∷ (‵ (flft κ q) ⊛ ‵ ftrue) ∷ ‵ (R.the-row .own r (u ∷ [])) ∷ ‵ Own ∷ []) ∵
@@ -166,8 +166,8 @@ module _ {M : Type 1} (𝓤 : URA M) (H : Heap 𝓤) (A : Atoms 𝓤) (W : Given
         -- [room for _5; …; room for _4; …; _3; …; _2; …; _1; …; room for _0; …; what is had at entry]
         move ! (12 ∷ []) $ use1 W (raw (Scan 𝓤 H A mem run .pre to-scan) ⊛ ‵ Own) goes-scan $ split ! $
         calls-at ! fm (Scan 𝓤 H A mem run) known-scan to-scan (and-then ! (load ! (from ! (stop !)) (look ! 10 refl)) (and-then ! (load ! (from ! (stop !)) (look ! 8 refl)) (and-then ! (load ! (from ! (stop !)) (look ! 6 refl)) (no-more !)))) (λ u.
-        use1 W (later (some (λ (r : Reading). ((‵ (flft κ q) ⊛ ‵ ftrue) ⊛ ‵ (R.the-row .own r (u ∷ []))) ⊛ raw (ensured 𝓤 H A scan.ended (scan.clauses 𝓤 H A mem run) (κ, tt) (s, (p, (e, tt))) tt r)))) (id⊢ 𝓤 _) $ await ! tt $ pick ! (λ r.
-        split ! $ move ! (1 ∷ []) $ use1 W (raw (fact 𝓤 (saysReading r ≡ found))) (scan-said r) $ heard ! (saysReading r ≡ found) (λ e₁. split ! $ move ! (1 ∷ []) $
+        use1 W (later (some (λ (r : ScanAnswer). ((‵ (flft κ q) ⊛ ‵ ftrue) ⊛ ‵ (R.the-row .own r (u ∷ []))) ⊛ raw (ensured 𝓤 H A scan.ended (scan.clauses 𝓤 H A mem run) (κ, tt) (s, (p, (e, tt))) tt r)))) (id⊢ 𝓤 _) $ await ! tt $ pick ! (λ r.
+        split ! $ move ! (1 ∷ []) $ use1 W (raw (fact 𝓤 (saysScan r ≡ found))) (scan-said r) $ heard ! (saysScan r ≡ found) (λ e₁. split ! $ move ! (1 ∷ []) $
         -- [what r owns; the token; what s owns; room for _5; …; room for _4; …; _3; …; _2; …; _1; …; room for _0; …]
         peeks ! R.the-row (Is R.the-row) (shows 𝓤 H A R.the-row) r (u ∷ []) (λ is.
         land ! (from ! (stop !)) (init ! 5 refl (EL.lawful R.the-type R′.the-laws 𝓤 H A W tt .typed r _ is .0)) $
@@ -175,7 +175,7 @@ module _ {M : Type 1} (𝓤 : URA M) (H : Heap 𝓤) (A : Atoms 𝓤) (W : Given
         -- [what `unread` asks; what r and s own; room for _5; …]
         calls-at ! fm (Unread 𝓤 H A mem run) known-unread (to-unread r u) (and-then ! (load ! (from ! (stop !)) (look ! 10 refl)) (and-then ! (load ! (from ! (stop !)) (look ! 4 refl)) (no-more !))) (λ w.
         use1 W (later (some (λ (t : RefT (List ℕ)). ((‵ (flft κ q) ⊛ ‵ ftrue) ⊛ ‵ (ShrSlice (named 0) κ u8 .own t (w ∷ []))) ⊛ raw (ensured 𝓤 H A unread.ended (unread.clauses 𝓤 H A mem run) (κ, tt) (s, (r, tt)) tt t)))) (id⊢ 𝓤 _) $ await ! tt $ pick ! (λ t.
-        split ! $ move ! (1 ∷ []) $ use1 W (raw (fact 𝓤 (now t ≡ drop (usedOf (saysReading r)) (now s)))) (unread-said r t) $ heard ! (now t ≡ drop (usedOf (saysReading r)) (now s)) (λ e₂. split ! $ move ! (1 ∷ []) $
+        split ! $ move ! (1 ∷ []) $ use1 W (raw (fact 𝓤 (now t ≡ drop (usedOf (saysScan r)) (now s)))) (unread-said r t) $ heard ! (now t ≡ drop (usedOf (saysScan r)) (now s)) (λ e₂. split ! $ move ! (1 ∷ []) $
         -- [what t owns; the token; what r and s own; room for _5; …; _4; …; _3; …; _2; …; _1; …; room for _0; …]
         peeks ! (ShrSlice (named 0) κ u8) (Is (ShrSlice (named 0) κ u8)) (shows 𝓤 H A (ShrSlice (named 0) κ u8)) t (w ∷ []) (λ it.
         land ! (from ! (stop !)) (init ! 3 refl (shr-slice-lawful 𝓤 H A W erased κ u8 .typed t (w ∷ []) it .0)) $

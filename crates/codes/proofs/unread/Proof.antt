@@ -2,8 +2,8 @@ use borrow.Author.Needs.{needs}
 use mathlib.Core.Path.{ap, sym, _∙_}
 use lib.ListN.{drop}
 use Rattle.codes.specs.Reading.{usedOf}
-use Rattle.codes.specs.Answers.{saysReading}
-use Rattle.codes.specs.declared.Reading.{Reading}
+use Rattle.codes.specs.Answers.{saysScan}
+use Rattle.codes.specs.declared.ScanAnswer.{ScanAnswer}
 use Rattle.codes.proofs.Parts.{part-rest, part-none}
 use Rattle.codes.proofs.unread.Statement.{statement}
 use Rattle.codes.proofs.unread.Tie as tie
@@ -26,7 +26,7 @@ part-result-end c = search needs
 returns : tie.Need-returns
 returns c =
     let b = c .before .before .before in
-    part-rest (b .before .before .args .s .now) _ ∙ ap (λ (a : Reading). drop (usedOf (saysReading a)) (b .before .before .args .s .now)) (sym (b .a .given .1))
+    part-rest (b .before .before .args .s .now) _ ∙ ap (λ (a : ScanAnswer). drop (usedOf (saysScan a)) (b .before .before .args .s .now)) (sym (b .a .given .1))
 
 sub-result-2 : tie.Need-sub-result-2
 sub-result-2 c = search needs
@@ -43,7 +43,7 @@ returns-2 c = search needs
 returns-3 : tie.Need-returns-3
 returns-3 c =
     let b = c .before .before .before in
-    part-none (b .before .before .args .s .now) _ (c .before .if1 .left) ∙ ap (λ (a : Reading). drop (usedOf (saysReading a)) (b .before .before .args .s .now)) (sym (b .a .given .1))
+    part-none (b .before .before .args .s .now) _ (c .before .if1 .left) ∙ ap (λ (a : ScanAnswer). drop (usedOf (saysScan a)) (b .before .before .args .s .now)) (sym (b .a .given .1))
 
 pub unread-spec : {M : Type 1} → statement M
 unread-spec =

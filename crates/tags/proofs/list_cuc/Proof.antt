@@ -7,7 +7,7 @@ use Rattle.base.specs.Outcome.{Outcome, andThen}
 use Rattle.base.proofs.Signed.{back}
 use Rattle.scale.specs.Answers.{recorded}
 use Rattle.window.proofs.Room.{lists-refused}
-use Rattle.tags.specs.CucTag.{Periodic, tagOf, listPeriodic, listCuc}
+use Rattle.tags.specs.CucTag.{Periodic, periodicOf, listPeriodic, listCuc}
 use Rattle.tags.specs.Inner.{saysPeriodic}
 use Rattle.tags.proofs.CucTags.{tag-good}
 use Rattle.tags.proofs.list_cuc.Statement.{statement}
@@ -17,7 +17,7 @@ read-requires : tie.Need-read-requires
 read-requires c κs = search needs
 
 -- what the tag said, at the epoch itself
-told : (c : tie.After-read) → tagOf (now (c .before .before .args .tag)) (c .before .before .args .p) (c .before .before .args .epoch) ≡ saysPeriodic (c .read .result)
+told : (c : tie.After-read) → periodicOf (now (c .before .before .args .tag)) (c .before .before .args .p) (c .before .before .args .epoch) ≡ saysPeriodic (c .read .result)
 told c =
     let s = c .before .before in
     sym (rw (back w64 (s .args .epoch) (s .fits .epoch)) at (c .read .ensures))

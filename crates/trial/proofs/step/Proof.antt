@@ -48,8 +48,8 @@ use Rattle.codes.specs.declared.Taken.{Taken}
 use Rattle.pfield.specs.declared.Preamble.{Preamble}
 use Rattle.codes.proofs.Taken as T
 use Rattle.codes.proofs.Taken.Laws as T′
-use Rattle.codes.proofs.Reading as R
-use Rattle.codes.proofs.Reading.Laws as R′
+use Rattle.codes.proofs.ScanAnswer as R
+use Rattle.codes.proofs.ScanAnswer.Laws as R′
 use Rattle.pfield.proofs.Preamble as P
 use Rattle.pfield.proofs.Preamble.Laws as P′
 use Rattle.codes.proofs.read as read

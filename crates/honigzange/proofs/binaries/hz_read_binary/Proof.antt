@@ -7,13 +7,13 @@ use Rattle.base.proofs.Signed.{back}
 use Rattle.pfield.specs.PField.{octet}
 use Rattle.codes.specs.Reading.{scanOf}
 use Rattle.codes.specs.Writing.{from}
-use Rattle.codes.specs.Answers.{saysReading}
+use Rattle.codes.specs.Answers.{saysScan}
 use Rattle.leap.specs.Builtin.{builtin}
 use Rattle.honigzange.proofs.binaries.hz_read_binary.Statement.{statement}
 use Rattle.honigzange.proofs.binaries.hz_read_binary.Tie as tie
 
 -- what `scan` said, at the caller's own words
-told : (c : tie.After-scan) → let a = c .before .before .before .args in scanOf builtin (now (a .bytes)) (from (a .front) (octet (a .p))) (a .epoch) ≡ saysReading (c .scan .result)
+told : (c : tie.After-scan) → let a = c .before .before .before .args in scanOf builtin (now (a .bytes)) (from (a .front) (octet (a .p))) (a .epoch) ≡ saysScan (c .scan .result)
 told c =
     let k = c .before in
     let s = k .before .before in

@@ -9,7 +9,7 @@ use Rattle.pfield.specs.PField.{Headed, headedOf}
 use Rattle.pfield.specs.Answers.{saysHead}
 use Rattle.pfield.specs.declared.Codes.the-variants.{Cuc}
 use Rattle.pfield.proofs.Heads.{start-low}
-use Rattle.tags.specs.CucTag.{tagIn, tagOf}
+use Rattle.tags.specs.CucTag.{tagIn, periodicOf}
 use Rattle.tags.proofs.periodic.read.Statement.{statement}
 use Rattle.tags.proofs.periodic.read.Tie as tie
 
@@ -34,14 +34,14 @@ read-in-requires c κs =
     start-low Cuc (a .epoch) (now (a .tag)) (a .p) _ (told r ∙ ap saysHead (w .l .given .1))
 
 returns : tie.Need-returns
-unfolding tagOf
+unfolding periodicOf
 returns c =
     let w = c .before in
     let a = w .before .before .before .before .args in
     sym (ap (λ (x : Outcome Headed). andThen x (λ (h : Headed). tagIn (now (a .tag)) (h .start) (h .layout))) (told (w .before .before) ∙ ap saysHead (w .why .given .1)))
 
 returns-2 : tie.Need-returns-2
-unfolding tagOf
+unfolding periodicOf
 returns-2 c =
     let w = c .before .before in
     let a = w .before .before .before .before .args in

@@ -1,4 +1,4 @@
--- `cds::timed` meets its contract: the day is counted in raised numbers, and what the remainder adds is less than a millisecond.
+-- `cds::moment_by` meets its contract: the day is counted in raised numbers, and what the remainder adds is less than a millisecond.
 use mathlib.Core.Path.{_≡_, sym, ap, _∙_}
 use Prim.Native.Nat.{_*_, _/_, _^_, _<_}
 use native.Mathlib.Omega.{arith}
@@ -12,8 +12,8 @@ use Rattle.scale.proofs.Fractions.{ticks-lt}
 use Rattle.moment.specs.Moment.{moment}
 use Rattle.cds.specs.Cds.{perMillisecond, fraction}
 use Rattle.cds.proofs.Laws.{grain, day-after, timed-over, timed-part, timed-is}
-use Rattle.cds.proofs.timed.Statement.{statement}
-use Rattle.cds.proofs.timed.Tie as tie
+use Rattle.cds.proofs.moment_by.Statement.{statement}
+use Rattle.cds.proofs.moment_by.Tie as tie
 
 returns : tie.Need-returns
 returns c = sym (timed-over _ _ _ _ (omega arith))
@@ -73,8 +73,8 @@ returns-3 c =
     rw (e, n)
     (sym (timed-is (a .l) (a .d) (a .m) (a .p) (omega arith) (omega (arith, n)) ∙ ap (λ (x : ℤ). done (moment x (a .m / 1000) (fraction (a .l .part) (a .m) (a .p)))) d))
 
-pub timed-spec : {M : Type 1} → statement M
-timed-spec =
+pub moment-by-spec : {M : Type 1} → statement M
+moment-by-spec =
     tie.close
     (tie.spec
     returns
