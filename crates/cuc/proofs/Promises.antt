@@ -20,10 +20,10 @@ use Rattle.octets.specs.Places.{be, octetValue}
 use Rattle.octets.specs.Counts.{countAt}
 use Rattle.octets.specs.declared.Counted.the-variants.{Done}
 use Rattle.octets.proofs.Places.{number-split}
-use Rattle.cuc.specs.Cuc.{isLayout, width, unit, timeOf, field, Reads, since, holds, partsOf, inOctets, coded, bytesOf, Holds}
+use Rattle.cuc.specs.Cuc.{isLayout, width, unit, field, Reads, since, holds, partsOf, inOctets, coded, bytesOf, Holds}
 use Rattle.cuc.specs.declared.Layout.{Layout}
 use Rattle.cuc.proofs.Widths.{grain}
-use Rattle.cuc.proofs.Layouts.{layout-good, width-is}
+use Rattle.cuc.proofs.Layouts.{width-is}
 use Rattle.cuc.proofs.Sources.{since-is, held-so, held-is}
 use Rattle.cuc.proofs.Times.{valid-time, worth-time, floored, same-second, floored-before, floored-latest}
 use Rattle.cuc.proofs.Stores.{length-laid}

@@ -3,8 +3,8 @@ use mathlib.Core.Path.{_≡_, refl, sym, ap, _∙_}
 use mathlib.Core.Bool.{Bool, true, false, cond}
 use Prim.Native.Nat.{ℕ, _-_, _^_, _<_, _≤_}
 use native.Mathlib.Omega.{arith}
-use lib.IntN.{pos, _+ℤ_, _-ℤ_}
-use Rattle.base.specs.Parts.{plus, minus, within, at}
+use lib.IntN.{ℤ, pos, _+ℤ_}
+use Rattle.base.specs.Parts.{plus, minus, at}
 use Rattle.base.specs.declared.Seat.the-variants.{In, Out}
 use Rattle.base.proofs.Bools.{cond-yes, cond-no}
 use Rattle.base.proofs.Signed.{same, sum, difference, apart, within-low, within-high, within-yes, within-under, within-over}
@@ -48,7 +48,7 @@ module _ (l : Layout) (r : Time) where
   -- ---- the seat that the code finds
   pub seat-in : (c : ℕ) → l .epoch +ℤ pos c ≡ r .sec → c < 256 ^ l .coarse → In c ≡ seatIn l r
   unfolding seatIn
-  seat-in c e h = sym (cond-yes _ _ (held-so c e h) ∙ ap (λ z. In (plus z)) (since-is c e))
+  seat-in c e h = sym (cond-yes _ _ (held-so c e h) ∙ ap (λ (z : ℤ). In (plus z)) (since-is c e))
 
   pub seat-out : holds l r ≡ false → Out ≡ seatIn l r
   unfolding seatIn

@@ -1,7 +1,7 @@
 -- The times that two counts name: they are records, and stand in the order of their ticks from the epoch. Of a time that is written, the latest of them that is not after it.
 use mathlib.Core.Path.{_≡_, refl, sym, ap, _∙_}
 use mathlib.Core.Bool.{Bool, true, false}
-use Prim.Native.Nat.{ℕ, _+_, _*_, _/_, _^_, _<_, _≤_}
+use Prim.Native.Nat.{ℕ, _+_, _*_, _^_, _<_, _≤_}
 use native.Mathlib.Nat.{add-mul, mul-assoc}
 use native.Mathlib.Omega.{arith}
 use borrow.Author.Tests.{ltb-true, ltb-false}
@@ -11,7 +11,7 @@ use Rattle.base.specs.Parts.{plus, minus}
 use Rattle.base.proofs.Signed.{same, sum, line, apart, le-so, le-yes}
 use Rattle.scale.specs.Time.{Time, perSecond, worth, isRecord}
 use Rattle.scale.specs.Latest.{NotAfter}
-use Rattle.scale.proofs.Fractions.{ticks-lt, part-lt, part-le, part-most}
+use Rattle.scale.proofs.Fractions.{ticks-lt, part-le, part-most}
 use Rattle.scale.proofs.Laws.{worth-parts, within-good}
 use Rattle.cuc.specs.Cuc.{unit, timeOf, since, holds, partsOf}
 use Rattle.cuc.specs.Inner.{Good}

@@ -99,13 +99,13 @@ fn number(s: &[u8], at: usize, w: usize) -> u64
     }
 }
 
-// The ticks of one part of a second.
+// The ticks of one part of a second, of which there are 256^fine: each octet is a shift by 8.
 fn unit(fine: usize) -> u64
     requires { ⌜ fine ≤ 3 ⌝ }
     ensures { λ r. ⌜ r ≡ unit fine ⌝ }
 {
-    let many = octets::power256(fine);
-    Record::TICKS / many
+    let bits = 8 * fine as u64;
+    Record::TICKS >> bits
 }
 
 // The moment c whole seconds and f parts of a second after the epoch.

@@ -1,11 +1,11 @@
 -- `cuc::put` meets its contract: the seat is the whole seconds' place in the field, and the parts are the definition's.
-use mathlib.Core.Path.{_≡_, sym, ap, _∙_}
+use mathlib.Core.Path.{sym, _∙_}
 use native.Mathlib.Omega.{arith}
 use borrow.Author.Needs.{needs}
 use Rattle.base.specs.declared.Refusal.the-variants.{Range}
 use Rattle.scale.specs.Answers.{recorded}
 use Rattle.octets.proofs.Writes.{refuses}
-use Rattle.cuc.specs.Inner.{Good, seatIn}
+use Rattle.cuc.specs.Inner.{Good}
 use Rattle.cuc.proofs.Widths.{grain}
 use Rattle.cuc.proofs.Layouts.{layout-good}
 use Rattle.cuc.proofs.Sources.{told-in, told-out}
