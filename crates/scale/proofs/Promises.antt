@@ -10,10 +10,7 @@ use Rattle.base.specs.Outcome.{done}
 use Rattle.base.proofs.Ladders.{need-yes}
 use Rattle.base.proofs.Signed.{same, sum, difference, rest-lt}
 use Rattle.scale.specs.Time.{Time, perSecond, worth, ofTicks, isRecord, isSpan, recordOf, differenceOf, shiftOf, earlier}
-use Rattle.scale.proofs.Laws.{good-within, within-good, ofTicks-worth, worth-ofTicks, difference-within, earlier-worth}
-
-record-ticks : (t : Time) → isRecord t ≡ true → t .ticks < perSecond
-record-ticks t g = good-within (2 ^ 41) t (lit< tt) g .below
+use Rattle.scale.proofs.Laws.{record-ticks, good-within, within-good, ofTicks-worth, worth-ofTicks, difference-within, earlier-worth}
 
 module _ (a b : Time) (ga : isRecord a ≡ true) (gb : isRecord b ≡ true) where
   abbrev gap : Time
