@@ -1,52 +1,62 @@
 -- What is printed for a line, by its outcome, and put into lent bytes.
 use mathlib.Core.Path.{_≡_, refl, sym, ap, _∙_}
-use mathlib.Core.List.{List, [], _∷_}
+use mathlib.Core.Bool.{Bool, true, false, cond}
+use mathlib.Core.List.{List, [], _∷_, _++_}
 use Prim.Native.Nat.{ℕ, suc, _+_, _<_, _≤_}
 use native.Mathlib.Omega.{arith}
-use lib.Dec.{leb}
+use lib.Dec.{leb, ltb}
 use lib.ListN.{length, set, length-append}
 use lib.Seq.{sets-eq}
-use borrow.Author.Tests.{le-leb, lt-leb}
+use borrow.Author.Tests.{le-leb, lt-leb, lt-ltb, le-ltb}
 use Rattle.base.specs.Outcome.{Outcome, done, refused, andThen}
 use Rattle.base.specs.Refusals.{number}
 use Rattle.base.specs.declared.Refusal.{Refusal}
-use Rattle.base.specs.declared.Refusal.the-variants.{Short, Identification, Unsupported, Field, Uncovered, NoSuchSecond, Range, Room, Window}
 use Rattle.base.proofs.Ladders.{never, done-is, refused-is, need-yes, need-no, need-done, then-done}
 use Rattle.scale.specs.Time.{Time}
-use Rattle.octets.specs.Stores.{pasted}
+use Rattle.octets.specs.Places.{digitOf, digits}
+use Rattle.octets.specs.Stores.{pasted, Stored}
 use Rattle.octets.specs.Writes.{roomed, Wrote}
 use Rattle.octets.specs.declared.Written.{Written}
 use Rattle.octets.specs.declared.Written.the-variants.{Done, Refused}
+use Rattle.octets.proofs.Places.{length-places}
 use Rattle.octets.proofs.Writes.{room-in}
-use Rattle.octets.proofs.Pastes.{length-pasted, paste-one, then}
+use Rattle.octets.proofs.Pastes.{length-pasted, paste-one, then, stored}
+use Rattle.ascii.specs.Quoted.{bytes}
 use Rattle.ascii.specs.Ascii.{width}
 use Rattle.leap.specs.Builtin.{builtin}
 use Rattle.codes.specs.Text.{textOf, letters}
 use Rattle.codes.proofs.Texts.{write-width}
 use Rattle.codes.specs.Setting.{defaultLayout}
-use Rattle.lines.specs.Answer.{printed, outcomeOf, answerOf}
+use Rattle.lines.specs.Answer.{figures, printed, outcomeOf, answerOf}
 
 -- ---- a refusal
-pub number-small : (why : Refusal) → number why ≤ 9
-number-small Short = omega arith
-number-small Identification = omega arith
-number-small Unsupported = omega arith
-number-small Field = omega arith
-number-small Uncovered = omega arith
-number-small NoSuchSecond = omega arith
-number-small Range = omega arith
-number-small Room = omega arith
-number-small Window = omega arith
+pub figures-in : (n : ℕ) → (1 ≤ figures n) × (figures n ≤ 2)
+figures-in n = go (ltb n 10)
+  where
+    go : (b : Bool) → (1 ≤ cond b 1 2) × (cond b 1 2 ≤ 2)
+    go true = omega arith
+    go false = omega arith
 
-pub length-refused : (n : ℕ) → length (printed (refused n)) ≡ 10
+pub one-figure : (n : ℕ) → n < 10 → 1 ≡ figures n
+one-figure n h = rw (lt-ltb n 10 h)
+
+pub two-figures : (n : ℕ) → 10 ≤ n → 2 ≡ figures n
+two-figures n h = rw (le-ltb n 10 h)
+
+pub put-figures : (d e : List ℕ) (at n : ℕ) {w : ℕ} {r : Bool} → w ≡ figures n → at + 2 ≤ length d → Stored (digits w n) at d e r → (w ≡ figures n) × (e ≡ pasted d at (digits (figures n) n))
+put-figures d e at n {w} i h s =
+    let k : length (digits w n) ≡ w = length-places 10 digitOf w n in
+    (i, stored (omega (arith, figures-in n)) s .1 ∙ ap (λ (m : ℕ). pasted d at (digits m n)) i)
+
+pub length-refused : (n : ℕ) → length (printed (refused n)) ≡ 9 + figures n
 unfolding printed
-length-refused n = refl
+length-refused n = simp length-append (omega (arith, length-places 10 digitOf (figures n) n))
 
--- the ten stores
-pub stored-refusal : (d : List ℕ) (at n : ℕ) → at + 10 ≤ length d
-    → set (set (set (set (set (set (set (set (set (set d at 114) (at + 1) 101) (at + 2) 102) (at + 3) 117) (at + 4) 115) (at + 5) 101) (at + 6) 100) (at + 7) 32) (at + 8) (48 + n)) (at + 9) 10 ≡ pasted d at (printed (refused n))
-unfolding pasted printed
-stored-refusal d at n h =
+-- the eight stores
+pub stored-word : (d : List ℕ) (at : ℕ) → at + 8 ≤ length d
+    → set (set (set (set (set (set (set (set d at 114) (at + 1) 101) (at + 2) 102) (at + 3) 117) (at + 4) 115) (at + 5) 101) (at + 6) 100) (at + 7) 32 ≡ pasted d at (bytes "refused ")
+unfolding pasted
+stored-word d at h =
     let e1 : at + 1 ≡ suc at = omega arith in
     let e2 : at + 2 ≡ suc (suc at) = omega arith in
     let e3 : at + 3 ≡ suc (suc (suc at)) = omega arith in
@@ -54,9 +64,20 @@ stored-refusal d at n h =
     let e5 : at + 5 ≡ suc (suc (suc (suc (suc at)))) = omega arith in
     let e6 : at + 6 ≡ suc (suc (suc (suc (suc (suc at))))) = omega arith in
     let e7 : at + 7 ≡ suc (suc (suc (suc (suc (suc (suc at)))))) = omega arith in
-    let e8 : at + 8 ≡ suc (suc (suc (suc (suc (suc (suc (suc at))))))) = omega arith in
-    let e9 : at + 9 ≡ suc (suc (suc (suc (suc (suc (suc (suc (suc at)))))))) = omega arith in
-    rw (e1, e2, e3, e4, e5, e6, e7, e8, e9) (sets-eq (printed (refused n)) d at h)
+    rw (e1, e2, e3, e4, e5, e6, e7) (sets-eq (bytes "refused ") d at h)
+
+-- the word, the number and the line feed, one after another
+pub stored-refusal : (d a b : List ℕ) (at n w : ℕ) → at + 80 ≤ length d → a ≡ pasted d at (bytes "refused ") → b ≡ pasted a (at + 8) (digits (figures n) n) → w ≡ figures n
+    → (at + 8 + w < length b) × (set b (at + 8 + w) 10 ≡ pasted d at (printed (refused n)))
+unfolding printed
+stored-refusal d a b at n w h e f g =
+    let (_, k) = figures-in n in
+    let t = digits (figures n) n in
+    let lt : length t ≡ figures n = length-places 10 digitOf (figures n) n in
+    let la : length a ≡ length d = ap length e ∙ length-pasted d at (bytes "refused ") (omega arith) in
+    let lb : length b ≡ length a = ap length f ∙ length-pasted a (at + 8) t (omega arith) in
+    let s : set b (at + 8 + w) 10 ≡ pasted b (at + 8 + w) (10 ∷ []) = paste-one b (at + 8 + w) 10 (omega arith) in
+    (omega arith, then d (bytes "refused ") (t ++ 10 ∷ []) at (at + 8) e (then a t (10 ∷ []) (at + 8) (at + 8 + w) f s (omega arith) (omega arith)) (omega arith) (omega arith))
 
 -- ---- the outcome of a line
 pub of-long : (p : List ℕ) → 64 < length p → outcomeOf builtin p ≡ refused 4
@@ -75,7 +96,7 @@ length-code t code e = write-width builtin defaultLayout t code e
 length-printed : (x : Outcome (List ℕ)) → ((code : List ℕ) → x ≡ done code → length code ≡ 24) → length (printed x) ≤ 25
 unfolding printed
 length-printed (done code) h = omega (arith, length-append code (10 ∷ []), h code refl)
-length-printed (refused n) h = omega (arith, length-refused n)
+length-printed (refused n) h = omega (arith, length-refused n, figures-in n)
 
 done-length : (p code : List ℕ) → outcomeOf builtin p ≡ done code → length code ≡ 24
 unfolding outcomeOf

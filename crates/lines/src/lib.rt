@@ -14,7 +14,9 @@ ghost use Rattle.scale.specs.Answers.{recorded};
 ghost use Rattle.leap.specs.Builtin.{builtin};
 ghost use Rattle.codes.specs.Text.{letters};
 ghost use Rattle.codes.specs.Setting.{defaultLayout};
-ghost use Rattle.lines.specs.Answer.{printed, answerOf};
+ghost use Rattle.octets.specs.Places.{digits};
+ghost use Rattle.ascii.specs.Quoted.{bytes};
+ghost use Rattle.lines.specs.Answer.{figures, printed, answerOf};
 ghost use Rattle.lines.specs.Split.{before, fate, after, kept, ending};
 ghost use Rattle.lines.specs.Says.{lineOf, heldOf, Fares, Ends};
 
@@ -199,18 +201,38 @@ fn print(r: Record, out: &mut [u8], at: usize) -> usize
 // "refused ", the number and the line feed, into out from `at` on; and where that ends.
 fn refuse(why: Refusal, out: &mut [u8], at: usize) -> usize
     requires { ⌜ at + 80 ≤ length (now out) ⌝ }
-    ensures { λ r. ⌜ (r ≡ at + 10) × (now (out .exit) ≡ pasted (now (out .entry)) at (printed (refused (number why)))) ⌝ }
+    ensures { λ r. ⌜ (r ≡ at + length (printed (refused (number why)))) × (now (out .exit) ≡ pasted (now (out .entry)) at (printed (refused (number why)))) ⌝ }
 {
     let n = why.number();
-    out[at] = 114;
-    out[at + 1] = 101;
-    out[at + 2] = 102;
-    out[at + 3] = 117;
-    out[at + 4] = 115;
-    out[at + 5] = 101;
-    out[at + 6] = 100;
-    out[at + 7] = 32;
-    out[at + 8] = 48 + n;
-    out[at + 9] = 10;
-    at + 10
+    put_refused(out, at);
+    let end = at + 8 + put_number(out, at + 8, n as u64);
+    out[end] = b'\n';
+    end + 1
+}
+
+fn put_refused(out: &mut [u8], at: usize)
+    requires { ⌜ at + 8 ≤ length (now out) ⌝ }
+    ensures { λ _. ⌜ now (out .exit) ≡ pasted (now (out .entry)) at (bytes "refused ") ⌝ }
+{
+    out[at] = b'r';
+    out[at + 1] = b'e';
+    out[at + 2] = b'f';
+    out[at + 3] = b'u';
+    out[at + 4] = b's';
+    out[at + 5] = b'e';
+    out[at + 6] = b'd';
+    out[at + 7] = b' ';
+}
+
+// A number below 100 in as many digits as it has; and how many that are.
+fn put_number(out: &mut [u8], at: usize, n: u64) -> usize
+    requires { ⌜ at + 2 ≤ length (now out) ⌝ }
+    ensures { λ r. ⌜ (r ≡ figures n) × (now (out .exit) ≡ pasted (now (out .entry)) at (digits (figures n) n)) ⌝ }
+{
+    if n < 10 {
+        octets::put_decimal(out, at, 1, n);
+        return 1;
+    }
+    octets::put_decimal(out, at, 2, n);
+    2
 }

@@ -3,7 +3,7 @@ use mathlib.Core.Path.{sym, ap, _∙_}
 use native.Mathlib.Omega.{arith}
 use borrow.Author.Needs.{needs}
 use Rattle.scale.specs.Answers.{saysRecord}
-use Rattle.lines.proofs.Texts.{length-refused, of-long, of-read}
+use Rattle.lines.proofs.Texts.{of-long, of-read}
 use Rattle.lines.proofs.answer.Statement.{statement}
 use Rattle.lines.proofs.answer.Tie as tie
 
@@ -18,7 +18,7 @@ returns c =
     let f = c .before .before in
     let p = f .before .before .before .before .before .args .line .now in
     let e = of-long p (omega arith) in
-    (rw (e, length-refused) (f .refuse .ensures .0), rw e (f .refuse .ensures .1))
+    (rw e (f .refuse .ensures .0), rw e (f .refuse .ensures .1))
 
 read-requires : tie.Need-read-requires
 read-requires c κs = search needs
@@ -45,7 +45,7 @@ returns-2 c =
     let r = k .before .before in
     let p = r .before .before .before .before .args .line .now in
     let e = of-read p (omega arith) _ (sym (ap saysRecord (k .read2 .given .1)) ∙ r .read .ensures) in
-    (rw (e, length-refused) (f .refuse2 .ensures .0), rw e (f .refuse2 .ensures .1))
+    (rw e (f .refuse2 .ensures .0), rw e (f .refuse2 .ensures .1))
 
 same-length-3 : tie.Need-same-length-3
 same-length-3 c = search needs

@@ -5,7 +5,7 @@ use Rattle.scale.specs.Answers.{recorded}
 use Rattle.leap.specs.Builtin.{builtin}
 use Rattle.codes.specs.Text.{letters}
 use Rattle.codes.specs.Setting.{defaultLayout}
-use Rattle.lines.proofs.Texts.{length-refused, length-code, Shown, refused-line, written-line}
+use Rattle.lines.proofs.Texts.{length-code, Shown, refused-line, written-line}
 use Rattle.lines.proofs.print.Statement.{statement}
 use Rattle.lines.proofs.print.Tie as tie
 
@@ -47,7 +47,7 @@ returns c =
     let w = k .before .before .before .before in
     let a = w .before .before .before .args in
     let (e, g) = refused-line (letters builtin defaultLayout (recorded (a .r))) (a .at) (a .out .now) (omega arith) (length-code (recorded (a .r))) (k .written .given .0 .0) (w .write .last .1 .1 .0) (w .write .result) (k .written .given .1) (w .write .ensures) in
-    (rw (g, length-refused) (f .refuse .ensures .0), rw (g, ← e) (f .refuse .ensures .1))
+    (rw g (f .refuse .ensures .0), rw (g, ← e) (f .refuse .ensures .1))
 
 same-length-2 : tie.Need-same-length-2
 same-length-2 c = search needs

@@ -1,112 +1,78 @@
--- `lines::refuse` meets its contract.
-use mathlib.Core.Path.{refl}
+-- `lines::refuse` meets its contract: the word, the number and the line feed stand one behind the other.
+use mathlib.Core.Path.{_≡_, sym, ap, _∙_}
+use Prim.Native.Nat.{_+_, _<_}
 use native.Mathlib.Omega.{arith}
-use lib.ListN.{length-set}
 use borrow.Author.Needs.{needs}
+use lib.ListN.{length, set, length-set}
+use Rattle.base.specs.Outcome.{refused}
 use Rattle.base.specs.Refusals.{number}
-use Rattle.lines.proofs.Texts.{number-small, stored-refusal}
+use Rattle.octets.specs.Stores.{pasted}
+use Rattle.lines.specs.Answer.{printed}
+use Rattle.lines.proofs.Texts.{figures-in, length-refused, stored-refusal}
 use Rattle.lines.proofs.refuse.Statement.{statement}
 use Rattle.lines.proofs.refuse.Tie as tie
 
 number-requires : tie.Need-number-requires
 number-requires c κs = search needs
 
+put-refused-requires : tie.Need-put-refused-requires
+put-refused-requires c κs = search needs
+
+add-end : tie.Need-add-end
+add-end c = search needs
+
+add-put-number : tie.Need-add-put-number
+add-put-number c = search needs
+
+cast-put-number : tie.Need-cast-put-number
+cast-put-number c = search needs
+
+put-number-requires : tie.Need-put-number-requires
+put-number-requires c κs = search needs
+
+-- where the line feed goes, and what stands then
+abbrev begun : tie.After-slice-known3 → tie.Start
+begun c = c .before .before .before .before .before .before .before .before .before .before
+
+there : (c : tie.After-slice-known3) → let a = begun c .args in let p = c .before .before in (a .at + 8 + p .put-number .result < length (p .put-number .last .0)) × (set (p .put-number .last .0) (a .at + 8 + p .put-number .result) 10 ≡ pasted (a .out .now) (a .at) (printed (refused (number (a .why)))))
+there c =
+    let a = begun c .args in
+    let p = c .before .before in
+    let w = p .before .before .before .before in
+    let n : w .before .before .number .result ≡ number (a .why) = w .before .before .number .ensures in
+    stored-refusal (a .out .now) (w .put-refused .last .0) (p .put-number .last .0) (a .at) (number (a .why)) (p .put-number .result) (omega arith) (w .put-refused .ensures) (rw n at (p .put-number .ensures .1)) (rw n at (p .put-number .ensures .0))
+
+add-end-2 : tie.Need-add-end-2
+add-end-2 c = omega (arith, c .before .before .put-number .ensures .0, figures-in (c .before .before .before .before .before .before .before .before .number .result))
+
 slice-write-out : tie.Need-slice-write-out
-slice-write-out c = search needs
-
-add-out : tie.Need-add-out
-add-out c = search needs
-
-slice-write-out-2 : tie.Need-slice-write-out-2
-slice-write-out-2 c = simp length-set (omega arith)
-
-add-out-2 : tie.Need-add-out-2
-add-out-2 c = search needs
-
-slice-write-out-3 : tie.Need-slice-write-out-3
-slice-write-out-3 c = simp length-set (omega arith)
-
-add-out-3 : tie.Need-add-out-3
-add-out-3 c = search needs
-
-slice-write-out-4 : tie.Need-slice-write-out-4
-slice-write-out-4 c = simp length-set (omega arith)
-
-add-out-4 : tie.Need-add-out-4
-add-out-4 c = search needs
-
-slice-write-out-5 : tie.Need-slice-write-out-5
-slice-write-out-5 c = simp length-set (omega arith)
-
-add-out-5 : tie.Need-add-out-5
-add-out-5 c = search needs
-
-slice-write-out-6 : tie.Need-slice-write-out-6
-slice-write-out-6 c = simp length-set (omega arith)
-
-add-out-6 : tie.Need-add-out-6
-add-out-6 c = search needs
-
-slice-write-out-7 : tie.Need-slice-write-out-7
-slice-write-out-7 c = simp length-set (omega arith)
-
-add-out-7 : tie.Need-add-out-7
-add-out-7 c = search needs
-
-slice-write-out-8 : tie.Need-slice-write-out-8
-slice-write-out-8 c = simp length-set (omega arith)
-
-add-out-8 : tie.Need-add-out-8
-add-out-8 c = omega (arith, c .number .ensures, number-small (c .before .before .args .why))
-
-add-out-9 : tie.Need-add-out-9
-add-out-9 c = search needs
-
-slice-write-out-9 : tie.Need-slice-write-out-9
-slice-write-out-9 c = simp length-set (omega arith)
-
-add-out-10 : tie.Need-add-out-10
-add-out-10 c = search needs
-
-slice-write-out-10 : tie.Need-slice-write-out-10
-slice-write-out-10 c = simp length-set (omega arith)
+slice-write-out c = there c .0
 
 add-result : tie.Need-add-result
-add-result c = search needs
+add-result c = omega (arith, c .before .before .put-number .ensures .0, figures-in (c .before .before .before .before .before .before .before .before .number .result))
 
 same-length : tie.Need-same-length
-same-length c = simp length-set
+same-length c = simp length-set (search needs)
 
 returns : tie.Need-returns
 returns c =
-    let a = c .before .before .args in
-    (refl, rw (c .number .ensures) (stored-refusal (a .out .now) (a .at) (number (a .why)) (omega arith)))
+    let a = begun c .args in
+    let p = c .before .before in
+    let n = p .before .before .before .before .before .before .number .ensures in
+    (omega (arith, rw n at (p .put-number .ensures .0), length-refused (number (a .why))), there c .1)
 
 pub refuse-spec : {M : Type 1} → statement M
 refuse-spec =
     tie.close
     (tie.spec
     number-requires
+    put-refused-requires
+    add-end
+    add-put-number
+    cast-put-number
+    put-number-requires
+    add-end-2
     slice-write-out
-    add-out
-    slice-write-out-2
-    add-out-2
-    slice-write-out-3
-    add-out-3
-    slice-write-out-4
-    add-out-4
-    slice-write-out-5
-    add-out-5
-    slice-write-out-6
-    add-out-6
-    slice-write-out-7
-    add-out-7
-    slice-write-out-8
-    add-out-8
-    add-out-9
-    slice-write-out-9
-    add-out-10
-    slice-write-out-10
     add-result
     same-length
     returns)
