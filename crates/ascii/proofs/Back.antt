@@ -1,80 +1,30 @@
 -- A code that was written, read: its shape is right, its layout is the writer's, and its fields are what it was written from.
-use mathlib.Core.Path.{_≡_, refl, _∙_}
-use mathlib.Core.Bool.{Bool, true, false, false≢true}
-use mathlib.Core.List.{List, [], _∷_, _++_, append-nil}
+use mathlib.Core.Path.{_≡_, _∙_}
+use mathlib.Core.Bool.{Bool, true, false}
+use mathlib.Core.List.{List, _++_}
 use Prim.Native.Nat.{ℕ, zero, suc, _+_, _-_, _*_, _/_, _%_, _^_, _<_, _≤_}
 use native.Mathlib.Omega.{arith}
-use lib.ListN.{length, drop, drop-of-length-le}
+use lib.ListN.{length}
 use lib.Seq.{drop-append-add}
 use borrow.Author.Tests.{le-leb}
 use Rattle.base.specs.Outcome.{Outcome, done}
-use Rattle.base.proofs.Bools.{and-true, and-yes}
 use Rattle.octets.specs.Places.{digitValue, decimalOf, digits}
-use Rattle.octets.proofs.Places.{digit-rule, number-append, number-places, places-good}
+use Rattle.octets.proofs.Places.{digit-rule, number-append, number-places}
 use Rattle.calendar.specs.Gregorian.{ordinalOn, dateIn, indexOfDate, indexOfOrdinal, fromEpoch}
 use Rattle.calendar.proofs.Promises.{ordinal-at-done, date-at-done, ordinal-at-back, date-at-back, ordinal-fields, date-fields}
 use Rattle.clock.specs.Clock.{clockOf, minuteOf}
 use Rattle.clock.proofs.Laws.{shown, shown-back}
 use Rattle.moment.specs.Moment.{moment}
+use Rattle.shape.specs.Shapes.{shaped}
 use Rattle.ascii.specs.declared.Layout.{Layout}
-use Rattle.ascii.specs.Quoted.{bytes}
-use Rattle.ascii.specs.Shapes.{alike, fits, shaped}
+use Rattle.ascii.specs.Shapes.{codeShapes}
 use Rattle.ascii.specs.Ascii.{frontOf, layoutOf, numberAt, dayAt, clockAt, ticksOf, fieldsOf, lead, dayText, clockText, fractionText, zoneText, codeText}
-use Rattle.ascii.proofs.Shapes.{zeros, dateShape, fractionShape, digits-out, own-shaped}
+use Rattle.ascii.proofs.Shapes.{code-shape, own-shaped}
 use Rattle.ascii.proofs.Texts.{digits-length, day-length}
 
 -- ---- the shape of what is written
-fits-append : (p q s t : List ℕ) → fits p s ≡ true → fits q t ≡ true → fits (p ++ q) (s ++ t) ≡ true
-fits-append [] q [] t e f = f
-fits-append [] q (b ∷ s) t e f = absurd (false≢true e)
-fits-append (c ∷ p) q [] t e f = absurd (false≢true e)
-fits-append (c ∷ p) q (b ∷ s) t e f =
-    let (a, g) = and-true (alike c b) (fits p s) e in
-    and-yes _ a ∙ fits-append p q s t g f
-
-fits-digits : (w n : ℕ) → fits (zeros w) (digits w n) ≡ true
-fits-digits w n =
-    let none : drop w (digits w n) ≡ [] = drop-of-length-le (digits w n) {i = w} (omega (arith, digits-length w n)) in
-    rw append-nil at (digits-out w [] (digits w n) (omega (arith, digits-length w n)) (places-good digit-rule w n) (rw none))
-
-fits-lead : (c w n : ℕ) → alike c c ≡ true → fits (c ∷ zeros w) (lead c w n) ≡ true
-fits-lead c w n e = and-yes _ e ∙ fits-digits w n
-
-day-fits : (o : Bool) (n : ℕ) → fits (dateShape o) (dayText o n) ≡ true
-unfolding dayText
-day-fits true n =
-    let o = ordinalOn n in
-    fits-append (zeros 4) (45 ∷ zeros 3) (digits 4 (o .year)) (lead 45 3 (o .day)) (fits-digits 4 (o .year)) (fits-lead 45 3 (o .day) refl)
-day-fits false n =
-    let d = dateIn (ordinalOn n) in
-    fits-append (zeros 4) ((45 ∷ zeros 2) ++ (45 ∷ zeros 2)) (digits 4 (d .year)) (lead 45 2 (d .month) ++ lead 45 2 (d .day)) (fits-digits 4 (d .year))
-    (fits-append (45 ∷ zeros 2) (45 ∷ zeros 2) (lead 45 2 (d .month)) (lead 45 2 (d .day)) (fits-lead 45 2 (d .month) refl) (fits-lead 45 2 (d .day) refl))
-
-clock-fits : (n : ℕ) → fits (bytes "T00:00:00") (clockText n) ≡ true
-unfolding clockText
-clock-fits n =
-    let m = minuteOf n in
-    fits-append (84 ∷ zeros 2) ((58 ∷ zeros 2) ++ (58 ∷ zeros 2)) (lead 84 2 (m / 60)) (lead 58 2 (m % 60) ++ lead 58 2 (n - m * 60)) (fits-lead 84 2 (m / 60) refl)
-    (fits-append (58 ∷ zeros 2) (58 ∷ zeros 2) (lead 58 2 (m % 60)) (lead 58 2 (n - m * 60)) (fits-lead 58 2 (m % 60) refl) (fits-lead 58 2 (n - m * 60) refl))
-
-fraction-fits : (d f : ℕ) → fits (fractionShape d) (fractionText d f) ≡ true
-fraction-fits zero f = refl
-fraction-fits (suc d) f = fits-lead 46 (suc d) f refl
-
-zone-fits : (z : Bool) → fits (zoneText z) (zoneText z) ≡ true
-zone-fits true = refl
-zone-fits false = refl
-
-pub code-shaped : (l : Layout) (n x f : ℕ) → l .digits ≤ 12 → (shaped (codeText l n x f) ≡ true) × (layoutOf (codeText l n x f) ≡ l)
-unfolding codeText
-code-shaped l n x f h =
-    let d = fractionShape (l .digits) in
-    let z = zoneText (l .zone) in
-    let g = fractionText (l .digits) f in
-    own-shaped l (dayText (l .ordinal) n ++ (clockText x ++ (g ++ z))) (le-leb (l .digits) 12 h)
-    (fits-append (dateShape (l .ordinal)) (bytes "T00:00:00" ++ (d ++ z)) (dayText (l .ordinal) n) (clockText x ++ (g ++ z)) (day-fits (l .ordinal) n)
-    (fits-append (bytes "T00:00:00") (d ++ z) (clockText x) (g ++ z) (clock-fits x)
-    (fits-append d z g z (fraction-fits (l .digits) f) (zone-fits (l .zone)))))
+pub code-shaped : (l : Layout) (n x f : ℕ) → l .digits ≤ 12 → (shaped codeShapes (codeText l n x f) ≡ true) × (layoutOf (codeText l n x f) ≡ l)
+code-shaped l n x f h = own-shaped l (codeText l n x f) (le-leb (l .digits) 12 h) (code-shape l n x f)
 
 -- ---- numbers that were written
 first-number : (w n : ℕ) (q : List ℕ) → n < 10 ^ w → decimalOf (digits w n ++ q) w ≡ n

@@ -12,16 +12,16 @@ use Rattle.base.proofs.Ladders.{done-is, need-done, then-done, given-done}
 use Rattle.base.proofs.Bools.{and-true}
 use Rattle.octets.specs.Places.{digits}
 use Rattle.ascii.specs.declared.Layout.{Layout}
-use Rattle.ascii.specs.Quoted.{bytes}
+use Rattle.shape.specs.Quoted.{bytes}
 use Rattle.clock.specs.Clock.{minuteOf}
 use Rattle.ascii.specs.Ascii.{ticksOf, zoneText, codeText}
 use Rattle.ascii.proofs.Shapes.{lay}
 use Rattle.seek.specs.declared.Tag.{Tag}
 use Rattle.seek.specs.Naming.{dayFits, clockFits}
-use Rattle.tag.specs.Forms.{Form, days, months, hours, minutes, find, shapeOf}
+use Rattle.tag.specs.Forms.{Form, days, months, hours, minutes, find}
 use Rattle.tag.specs.Tags.{until, calendarAs, timeIn, Timed, tag, midnight, anyDay, aloneBy, alone, joined, formed, goodTag, tagOf}
 use Rattle.tag.specs.Shortening.{cut, lowFrom, Run, Shortening, calendar, time, both}
-use Rattle.tag.proofs.Shapes.{until-cut}
+use Rattle.tag.proofs.Scans.{until-cut}
 use Rattle.tag.proofs.Subfields.{dated, clocked, calendar-of, clock-of, zone-of}
 use Rattle.tag.proofs.DatesBack.{is-may, low-is, DayBack, whole-back, day-back}
 use Rattle.tag.proofs.TimesBack.{TimeBack, behind-back, alone-back}
@@ -37,22 +37,22 @@ pub record Completed (n x k : ℕ) (s : List ℕ) : Type 0 where
 
 -- ---- what a tag was formed of
 pub data Parts (s : List ℕ) (t : Tag) : Type 0 where
-  day : (f : Form) → find (days ++ months) (shapeOf s) ≡ done f → tag (calendarAs s f) midnight ≡ t → Parts s t
+  day : (f : Form) → find (days ++ months) s ≡ done f → tag (calendarAs s f) midnight ≡ t → Parts s t
   clock : (k : Timed) → timeIn (hours ++ minutes) s ≡ done k → tag anyDay k ≡ t → Parts s t
-  joint : (c r : List ℕ) (f : Form) (k : Timed) → s ≡ c ++ (84 ∷ r) → find days (shapeOf c) ≡ done f → timeIn hours r ≡ done k → tag (calendarAs c f) k ≡ t → Parts s t
+  joint : (c r : List ℕ) (f : Form) (k : Timed) → s ≡ c ++ (84 ∷ r) → find days c ≡ done f → timeIn hours r ≡ done k → tag (calendarAs c f) k ≡ t → Parts s t
 
 parts-alone : (s : List ℕ) (t : Tag) → alone s ≡ done t → Parts s t
 unfolding alone
-parts-alone s t e = go (find (days ++ months) (shapeOf s)) refl e
+parts-alone s t e = go (find (days ++ months) s) refl e
   where
-    go : (o : Outcome Form) → find (days ++ months) (shapeOf s) ≡ o → aloneBy s o ≡ done t → Parts s t
+    go : (o : Outcome Form) → find (days ++ months) s ≡ o → aloneBy s o ≡ done t → Parts s t
     go (done f) p e = day f p (done-is _ t e)
     go (refused n) p e = let (k, (a, b)) = given-done (tag anyDay) (timeIn (hours ++ minutes) s) t e in clock k a b
 
 parts-joined : (s c r : List ℕ) (t : Tag) → s ≡ c ++ (84 ∷ r) → joined c r ≡ done t → Parts s t
 unfolding joined
 parts-joined s c r t i e =
-    let (f, (a, b)) = then-done (find days (shapeOf c)) (λ f. given (tag (calendarAs c f)) (timeIn hours r)) t e in
+    let (f, (a, b)) = then-done (find days c) (λ f. given (tag (calendarAs c f)) (timeIn hours r)) t e in
     let (k, (p, q)) = given-done (tag (calendarAs c f)) (timeIn hours r) t b in
     joint c r f k i a p q
 

@@ -11,28 +11,16 @@ use Rattle.base.proofs.Ladders.{never, done-is}
 use Rattle.base.proofs.Bools.{and-true}
 use Rattle.octets.specs.Places.{digits}
 use Rattle.calendar.specs.Gregorian.{ordinalOn, dateIn}
-use Rattle.ascii.specs.Quoted.{bytes}
+use Rattle.shape.specs.Quoted.{bytes}
 use Rattle.seek.specs.declared.Want.the-variants.{Is}
 use Rattle.seek.specs.Naming.{may, dayFits}
-use Rattle.tag.specs.Forms.{Form, Forms, form, free, lowest, at, days, months, find, same, shapeOf}
+use Rattle.shape.specs.Shapes.{shapeOf, same}
+use Rattle.tag.specs.Forms.{Form, Forms, form, free, lowest, at, days, months, find}
 use Rattle.tag.specs.Tags.{calendarAs}
 use Rattle.tag.specs.Shortening.{cut, Run}
-use Rattle.tag.proofs.Scans.{same-is}
-use Rattle.tag.proofs.Cuts.{Piece, sep, num, spell, outline, clean, Agree, spelled}
+use Rattle.tag.proofs.Scans.{find-each}
+use Rattle.shape.proofs.Pieces.{Piece, sep, num, spell, outline, clean, Agree, spelled}
 use Rattle.tag.proofs.Subfields.{dated}
-
--- ---- the form that was found is one of the forms
-abbrev pub Each : Forms → (Form → Type 0) → Type 0
-Each [] P = Unit {0}
-Each (f ∷ fs) P = P f × Each fs P
-
-pub find-each : (P : Form → Type 0) (fs : Forms) (p : List ℕ) (f : Form) → find fs p ≡ done f → Each fs (λ g. p ≡ g .shape → P g) → P f
-find-each P [] p f e h = never 4 f e
-find-each P (g ∷ fs) p f e (a, b) = go (same (g .shape) p) refl e (λ k. find-each P fs p f k b)
-  where
-    go : (t : Bool) → same (g .shape) p ≡ t → cond t (done g) (find fs p) ≡ done f → (find fs p ≡ done f → P f) → P f
-    go true q e k = subst P (done-is g f e) (a (sym (same-is (g .shape) p q)))
-    go false q e k = k e
 
 pub is-may : (a b : ℕ) → may (Is a) b ≡ true → a ≡ b
 is-may a b e = eqb-true a b e
@@ -133,14 +121,14 @@ module _ (n : ℕ) (c : List ℕ) where
       back false 0 1 (num 4 y ∷ []) false refl e (is-may _ _ p, tt) refl
       (record { some = omega arith; end = omega arith; low = rw (low-is 2 m 1 (bytes "01") (sym (is-may _ _ r)) refl, low-is 2 d 1 (bytes "01") (sym (is-may _ _ t)) refl) }) (λ i. absurd (false≢true i))
 
-  pub whole-back : (f : Form) → find days (shapeOf c) ≡ done f → dayFits (calendarAs c f) n ≡ true → DayBack n c true
+  pub whole-back : (f : Form) → find days c ≡ done f → dayFits (calendarAs c f) n ≡ true → DayBack n c true
   unfolding days
   whole-back f e =
-      find-each (λ g. dayFits (calendarAs c g) n ≡ true → DayBack n c true) days (shapeOf c) f e
+      find-each (λ g. dayFits (calendarAs c g) n ≡ true → DayBack n c true) days c f e
       (full-date true, (from-month true, (from-day true, (full-ordinal true, (from-ordinal true, tt)))))
 
-  pub day-back : (f : Form) → find (days ++ months) (shapeOf c) ≡ done f → dayFits (calendarAs c f) n ≡ true → DayBack n c false
+  pub day-back : (f : Form) → find (days ++ months) c ≡ done f → dayFits (calendarAs c f) n ≡ true → DayBack n c false
   unfolding days months
   day-back f e =
-      find-each (λ g. dayFits (calendarAs c g) n ≡ true → DayBack n c false) (days ++ months) (shapeOf c) f e
+      find-each (λ g. dayFits (calendarAs c g) n ≡ true → DayBack n c false) (days ++ months) c f e
       (full-date false, (from-month false, (from-day false, (full-ordinal false, (from-ordinal false, (to-month, (month-only, (year-only, tt))))))))

@@ -16,16 +16,17 @@ use Rattle.calendar.specs.Gregorian.{kind, row, upTo, monthsTo, ordinalOn, date
 use Rattle.calendar.proofs.Years.{kind-lt}
 use Rattle.calendar.proofs.Dates.{GoodOrdinal, GoodDate, good-on, good-in, is-date, is-ordinal}
 use Rattle.calendar.proofs.Promises.{date-at-done, date-fields}
-use Rattle.ascii.specs.Quoted.{bytes}
-use Rattle.ascii.proofs.Shapes.{downTo, down-at}
+use Rattle.shape.specs.Quoted.{bytes}
+use Rattle.shape.proofs.Tests.{downTo, down-at}
 use Rattle.seek.specs.declared.Want.the-variants.{Is}
 use Rattle.seek.specs.Naming.{may, dayFits}
-use Rattle.tag.specs.Forms.{Form, form, free, lowest, at, days, months, find, same, shapeOf}
+use Rattle.shape.specs.Shapes.{shapeOf, same}
+use Rattle.tag.specs.Forms.{Form, form, free, lowest, at, days, months, find}
 use Rattle.tag.specs.Tags.{until, calendarAs, goodDay}
 use Rattle.tag.specs.Shortening.{cut, lowFrom, Run}
-use Rattle.tag.proofs.Scans.{same-is}
-use Rattle.tag.proofs.Shapes.{until-shape}
-use Rattle.tag.proofs.Cuts.{Piece, sep, num, spell, outline, clean, spell-shape}
+use Rattle.shape.proofs.Tests.{same-is}
+use Rattle.tag.proofs.Scans.{until-shape, find-spelled}
+use Rattle.shape.proofs.Pieces.{Piece, sep, num, spell, outline, clean, spell-shape}
 use Rattle.tag.proofs.Subfields.{dated}
 
 -- ---- dates
@@ -61,7 +62,7 @@ leap-ordinal {y} {d} g =
 
 -- ---- what a shortened date wants
 pub record Dated (n : ℕ) (c : List ℕ) (f : Form) : Type 0 where
-  pub found : find (days ++ months) (shapeOf c) ≡ done f
+  pub found : find (days ++ months) c ≡ done f
   pub fits : dayFits (calendarAs c f) n ≡ true
   pub good : goodDay (calendarAs c f) ≡ true
   pub plain : until 84 c ≡ length c
@@ -82,19 +83,19 @@ low-is w n m s h e f = sym (written w n h) ∙ ap (λ (t : List ℕ). decimalOf 
 pub record Remains (n : ℕ) (c : List ℕ) (whole : Bool) : Type 0 where
   pub form-is : Form
   pub told : Dated n c form-is
-  pub reaches : whole ≡ true → find days (shapeOf c) ≡ done form-is
+  pub reaches : whole ≡ true → find days c ≡ done form-is
 
 remains : (n : ℕ) (ps : List Piece) (f : Form) (w : Bool) → clean ps ≡ true → find (days ++ months) (outline ps) ≡ done f → (w ≡ true → find days (outline ps) ≡ done f) → until 84 (outline ps) ≡ length (spell ps) → dayFits (calendarAs (spell ps) f) n ≡ true → goodDay (calendarAs (spell ps) f) ≡ true → Remains n (spell ps) w
 remains n ps f w e g r u h i =
     record {
       form-is = f;
       told = record {
-        found = ap (find (days ++ months)) (spell-shape ps e) ∙ g;
+        found = find-spelled (days ++ months) ps e ∙ g;
         fits = h;
         good = i;
         plain = sym (until-shape 84 refl (spell ps)) ∙ ap (until 84) (spell-shape ps e) ∙ u;
       };
-      reaches = λ t. ap (find days) (spell-shape ps e) ∙ r t;
+      reaches = λ t. find-spelled days ps e ∙ r t;
     }
 
 -- the first day of a year is the first of January
@@ -144,49 +145,49 @@ module _ (n : ℕ) (h : n ≤ 3652058) where
   o-is = written 3 o (omega (arith, ranges))
 
   full-date : Remains n (cut 0 3 (dated false n)) true
-  unfolding days months dayFits calendarAs goodDay dateIn
+  unfolding shapeOf days months dayFits calendarAs goodDay dateIn
   full-date =
       remains n (num 4 y ∷ sep 45 ∷ num 2 m ∷ sep 45 ∷ num 2 d ∷ []) (form (bytes "0000-00-00") (at 0) (at 5) (at 8) free) true refl refl (λ t. refl) refl
       (all-four (may-is _ _ y-is) (may-is _ _ m-is) (may-is _ _ d-is) refl) (rw (y-is, m-is, d-is) (is-date y m d date))
 
   from-month : Remains n (cut 1 3 (dated false n)) true
-  unfolding days months dayFits calendarAs goodDay
+  unfolding shapeOf days months dayFits calendarAs goodDay
   from-month =
       remains n (sep 45 ∷ num 2 m ∷ sep 45 ∷ num 2 d ∷ []) (form (bytes "-00-00") free (at 1) (at 4) free) true refl refl (λ t. refl) refl
       (all-four refl (may-is _ _ m-is) (may-is _ _ d-is) refl) (rw (m-is, d-is) (is-date 2000 m d (leap-date date)))
 
   from-day : Remains n (cut 2 3 (dated false n)) true
-  unfolding days months dayFits calendarAs goodDay
+  unfolding shapeOf days months dayFits calendarAs goodDay
   from-day =
       remains n (sep 45 ∷ sep 45 ∷ num 2 d ∷ []) (form (bytes "--00") free free (at 2) free) true refl refl (λ t. refl) refl
       (all-four refl refl (may-is _ _ d-is) refl) (rw d-is (is-date 2000 1 d (any-date (ranges .2) (ranges .3))))
 
   to-month : d ≡ 1 → Remains n (cut 0 2 (dated false n)) false
-  unfolding days months dayFits calendarAs goodDay dateIn
+  unfolding shapeOf days months dayFits calendarAs goodDay dateIn
   to-month e =
       remains n (num 4 y ∷ sep 45 ∷ num 2 m ∷ []) (form (bytes "0000-00") (at 0) (at 5) lowest free) false refl refl (λ t. absurd (false≢true t)) refl
       (all-four (may-is _ _ y-is) (may-is _ _ m-is) (may-is _ _ (sym e)) refl) (rw (y-is, m-is) (rw e at (is-date y m d date)))
 
   month-only : d ≡ 1 → Remains n (cut 1 2 (dated false n)) false
-  unfolding days months dayFits calendarAs goodDay
+  unfolding shapeOf days months dayFits calendarAs goodDay
   month-only e =
       remains n (sep 45 ∷ num 2 m ∷ []) (form (bytes "-00") free (at 1) lowest free) false refl refl (λ t. absurd (false≢true t)) refl
       (all-four refl (may-is _ _ m-is) (may-is _ _ (sym e)) refl) (rw m-is (rw e at (is-date 2000 m d (leap-date date))))
 
   year-only : m ≡ 1 → d ≡ 1 → Remains n (digits 4 y ++ []) false
-  unfolding days months dayFits calendarAs goodDay
+  unfolding shapeOf days months dayFits calendarAs goodDay
   year-only e f =
       remains n (num 4 y ∷ []) (form (bytes "0000") (at 0) lowest lowest free) false refl refl (λ t. absurd (false≢true t)) refl
       (all-four (may-is _ _ y-is) (may-is _ _ (sym e)) (may-is _ _ (sym f)) refl) (rw y-is (rw (e, f) at (is-date y m d date)))
 
   full-ordinal : Remains n (cut 0 2 (dated true n)) true
-  unfolding days months dayFits calendarAs goodDay
+  unfolding shapeOf days months dayFits calendarAs goodDay
   full-ordinal =
       remains n (num 4 y ∷ sep 45 ∷ num 3 o ∷ []) (form (bytes "0000-000") (at 0) free free (at 5)) true refl refl (λ t. refl) refl
       (all-four (may-is _ _ y-is) refl refl (may-is _ _ o-is)) (rw (y-is, o-is) (is-ordinal y o own))
 
   from-ordinal : Remains n (cut 1 2 (dated true n)) true
-  unfolding days months dayFits calendarAs goodDay
+  unfolding shapeOf days months dayFits calendarAs goodDay
   from-ordinal =
       remains n (sep 45 ∷ num 3 o ∷ []) (form (bytes "-000") free free free (at 1)) true refl refl (λ t. refl) refl
       (all-four refl refl refl (may-is _ _ o-is)) (rw o-is (is-ordinal 2000 o (leap-ordinal own)))

@@ -5,11 +5,12 @@ use Prim.Native.Nat.{ℕ}
 use lib.ListN.{replicate}
 use Rattle.base.specs.Outcome.{done, refused}
 use Rattle.calendar.specs.Gregorian.{kind, row, monthLength, isDate, isOrdinal}
-use Rattle.ascii.specs.Quoted.{bytes}
+use Rattle.shape.specs.Quoted.{bytes}
 use Rattle.seek.specs.declared.Want.{Want}
 use Rattle.seek.specs.declared.Want.the-variants.{Free, Is}
 use Rattle.seek.specs.declared.Tag.{Tag}
-use Rattle.tag.specs.Forms.{shapeOf, days, months, hours, minutes}
+use Rattle.shape.specs.Shapes.{shapeOf}
+use Rattle.tag.specs.Forms.{days, months, hours, minutes}
 use Rattle.tag.specs.Tags.{calendarAs, clockAs, unzoned, timeIn, alone, joined, formed, goodDay, goodClock, tagOf}
 
 abbrev wants : Want → Want → Want → Want → Want → Want → Want → ℕ → Tag

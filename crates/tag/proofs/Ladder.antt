@@ -10,16 +10,16 @@ use Rattle.base.specs.Outcome.{Outcome, done, refused, need, andThen, given}
 use Rattle.base.proofs.Bools.{cond-yes, cond-no}
 use Rattle.base.proofs.Ladders.{need-yes, need-no}
 use Rattle.seek.specs.declared.Tag.{Tag}
-use Rattle.tag.specs.Forms.{Form, shapeOf, days, months, hours, minutes, find}
+use Rattle.tag.specs.Forms.{Form, days, months, hours, minutes, find}
 use Rattle.tag.specs.Tags.{calendarAs, until, Timed, timeIn, tag, midnight, anyDay, aloneBy, alone, joined, formed, goodTag, tagOf}
 
 -- ---- a calendar and a time
 module _ (c k : List ℕ) where
-  pub joined-none : find days (shapeOf c) ≡ refused 4 → refused 4 ≡ joined c k
+  pub joined-none : find days c ≡ refused 4 → refused 4 ≡ joined c k
   unfolding joined
   joined-none e = sym (rw e)
 
-  module _ (f : Form) (e : find days (shapeOf c) ≡ done f) where
+  module _ (f : Form) (e : find days c ≡ done f) where
     pub joined-bad : timeIn hours k ≡ refused 4 → refused 4 ≡ joined c k
     unfolding joined
     joined-bad g = sym (rw (e, g))
@@ -30,11 +30,11 @@ module _ (c k : List ℕ) where
 
 -- ---- one of the two
 module _ (s : List ℕ) where
-  pub alone-day : (f : Form) → find (days ++ months) (shapeOf s) ≡ done f → done (tag (calendarAs s f) midnight) ≡ alone s
+  pub alone-day : (f : Form) → find (days ++ months) s ≡ done f → done (tag (calendarAs s f) midnight) ≡ alone s
   unfolding alone
   alone-day f e = sym (ap (aloneBy s) e)
 
-  module _ (e : find (days ++ months) (shapeOf s) ≡ refused 4) where
+  module _ (e : find (days ++ months) s ≡ refused 4) where
     pub alone-bad : timeIn (hours ++ minutes) s ≡ refused 4 → refused 4 ≡ alone s
     unfolding alone
     alone-bad g = sym (ap (aloneBy s) e ∙ ap (given (tag anyDay)) g)

@@ -4,8 +4,6 @@ pub mod Times
 pub mod Ladder
 pub mod Once
 pub mod Known
-pub mod Shapes
-pub mod Cuts
 pub mod Subfields
 pub mod Fractions
 pub mod Heads

@@ -21,7 +21,8 @@ use Rattle.utc.specs.Reckoning.{timeOf, readBy, reckons}
 use Rattle.utc.proofs.Laws.{table-good, last-index, time-told, time-done}
 use Rattle.utc.proofs.Lift.{read-so}
 use Rattle.ascii.specs.declared.Layout.{Layout}
-use Rattle.ascii.specs.Shapes.{shaped}
+use Rattle.shape.specs.Shapes.{shaped}
+use Rattle.ascii.specs.Shapes.{codeShapes}
 use Rattle.ascii.specs.Ascii.{frontOf, layoutOf, numberAt, dayAt, clockAt, ticksOf, fieldsOf, text, codeText}
 use Rattle.ascii.proofs.Shapes.{shaped-right}
 use Rattle.ascii.proofs.Sizes.{front-in}
@@ -58,10 +59,10 @@ clock-4 s i n e = go (clockOk (numberAt s i 2) (numberAt s (i + 3) 2) (numberAt 
     go true x e = never n x (sym e)
     go false x e = sym (refused-is 4 n e)
 
-full-length : (code : List ℕ) → shaped code ≡ true → 1 ≤ length code
+full-length : (code : List ℕ) → shaped codeShapes code ≡ true → 1 ≤ length code
 full-length code e = let (p, r) = shaped-right code e in omega (arith, p .size, front-in (layoutOf code .ordinal))
 
-module _ (code : List ℕ) (full : shaped code ≡ true) where
+module _ (code : List ℕ) (full : shaped codeShapes code ≡ true) where
   abbrev own : Layout
   own = layoutOf code
 
@@ -90,7 +91,7 @@ module _ (code : List ℕ) (full : shaped code ≡ true) where
             high = day-high (own .ordinal) code n e;
             low = clock-high code _ x f;
             small = part-lt own code r;
-            is = code-again own code n x p r e f;
+            is = code-again own code n x r e f;
           })
 
 -- ---- a text that is a shortening of a code that is not 4 is a tag, and wants what the code has

@@ -16,17 +16,18 @@ use Rattle.clock.specs.Clock.{minuteOf}
 use Rattle.ascii.specs.Ascii.{ticksOf, codeText}
 use Rattle.seek.specs.declared.Tag.{Tag}
 use Rattle.seek.specs.Naming.{dayFits, clockFits}
-use Rattle.tag.specs.Forms.{Form, days, months, hours, minutes, find, shapeOf}
+use Rattle.shape.specs.Shapes.{shapeOf}
+use Rattle.tag.specs.Forms.{Form, days, months, hours, minutes, find}
 use Rattle.tag.specs.Tags.{until, calendarAs, unzoned, timeIn, Timed, timed, tag, midnight, anyDay, alone, joined, formed, goodDay, goodClock, tagOf}
 use Rattle.tag.specs.Shortening.{Shortening, calendar, time, both}
-use Rattle.tag.proofs.Shapes.{until-past}
+use Rattle.tag.proofs.Scans.{until-past}
 use Rattle.tag.proofs.Ladder.{joined-done, alone-day, alone-time, formed-joined, formed-alone, tag-done}
 use Rattle.tag.proofs.Subfields.{dated, calendar-of, clock-of, zone-of}
 use Rattle.tag.proofs.DatesForth.{Dated, date-forth}
 use Rattle.tag.proofs.TimesForth.{Timing, Ticking, time-forth, low-hour}
 
 -- ---- a text that is a tag
-no-text : {X : Type 0} (f : Form) → find (days ++ months) (shapeOf []) ≡ done f → X
+no-text : {X : Type 0} (f : Form) → find (days ++ months) [] ≡ done f → X
 unfolding days months shapeOf
 no-text f e = never 4 f e
 
@@ -60,7 +61,7 @@ formed-both c s e =
     sym (formed-joined w (length c) u (omega (arith, length-append c (84 ∷ s))))
     ∙ ap₂ joined (take-at c (84 ∷ s) (length c) refl) (drop-append-add c (84 ∷ s) 1)
 
-pub day-and-time : (n x k : ℕ) (c s : List ℕ) (f : Form) (d : Dated n c f) (t : Timing hours x k s) → find days (shapeOf c) ≡ done f → tagOf (c ++ (84 ∷ s)) ≡ done (tag (calendarAs c f) (timed (t .clock) k))
+pub day-and-time : (n x k : ℕ) (c s : List ℕ) (f : Form) (d : Dated n c f) (t : Timing hours x k s) → find days c ≡ done f → tagOf (c ++ (84 ∷ s)) ≡ done (tag (calendarAs c f) (timed (t .clock) k))
 day-and-time n x k c s f d t e =
     tag-by (c ++ (84 ∷ s)) _ (omega (arith, length-append c (84 ∷ s)))
     (formed-both c s (d .plain) ∙ sym (joined-done c s f e (timed (t .clock) k) (t .told)))

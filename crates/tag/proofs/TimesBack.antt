@@ -15,20 +15,21 @@ use Rattle.base.proofs.Ladders.{never, done-is, need-done, then-done, given-don
 use Rattle.base.proofs.Bools.{and-true}
 use Rattle.octets.specs.Places.{digitGood, digits, decimalOf, allGood}
 use Rattle.octets.proofs.Places.{digit-rule, number-lt, places-number}
-use Rattle.ascii.specs.Quoted.{bytes}
+use Rattle.shape.specs.Quoted.{bytes}
 use Rattle.clock.specs.Clock.{minuteOf}
 use Rattle.ascii.specs.Ascii.{ticksOf, zoneText}
 use Rattle.ascii.proofs.Texts.{digits-length}
 use Rattle.seek.specs.declared.Clock.{Clock}
 use Rattle.seek.specs.Naming.{clockFits}
-use Rattle.tag.specs.Forms.{Place, Form, Forms, form, free, lowest, at, hours, minutes, find, shapeOf}
+use Rattle.shape.specs.Shapes.{shapeOf}
+use Rattle.tag.specs.Forms.{Place, Form, Forms, form, free, lowest, at, hours, minutes, find}
 use Rattle.tag.specs.Tags.{until, isFree, isLowest, clockAs, fractionAs, Timed, timed, unzoned, timeIn}
 use Rattle.tag.specs.Shortening.{digitsBy, cut, lowFrom, Run}
-use Rattle.tag.proofs.Shapes.{until-le, until-cut}
-use Rattle.tag.proofs.Cuts.{Piece, sep, num, spell, outline, clean, Agree, spelled}
+use Rattle.tag.proofs.Scans.{until-le, until-cut, find-each}
+use Rattle.shape.proofs.Pieces.{Piece, sep, num, spell, outline, clean, Agree, spelled}
 use Rattle.tag.proofs.Subfields.{clocked}
 use Rattle.tag.proofs.Fractions.{digits-count, first-digits}
-use Rattle.tag.proofs.DatesBack.{find-each, is-may, low-is}
+use Rattle.tag.proofs.DatesBack.{is-may, low-is}
 
 -- ---- a time, taken apart
 record Zoned (s : List ℕ) : Type 0 where
@@ -70,7 +71,7 @@ record Split (fs : Forms) (s : List ℕ) (k : Timed) : Type 0 where
   form-is : Form
   is : s ≡ head ++ (tail ++ zoneText zone)
   next : Follows tail
-  found : find fs (shapeOf head) ≡ done form-is
+  found : find fs head ≡ done form-is
   clock : clockAs head form-is ≡ k .clock
   ticks : fractionAs (form-is .third) tail ≡ done (k .ticks)
 
@@ -78,7 +79,7 @@ split-body : (fs : Forms) (s u : List ℕ) (z : Bool) (k : Timed) → s ≡ u ++
 unfolding unzoned
 split-body fs s u z k i e =
     let p = until 46 u in
-    let (f, (c, d)) = then-done (find fs (shapeOf (take p u))) (λ f. given (timed (clockAs (take p u) f)) (fractionAs (f .third) (drop p u))) k e in
+    let (f, (c, d)) = then-done (find fs (take p u)) (λ f. given (timed (clockAs (take p u) f)) (fractionAs (f .third) (drop p u))) k e in
     let (n, (g, h)) = given-done (timed (clockAs (take p u) f)) (fractionAs (f .third) (drop p u)) k d in
     record {
       head = take p u;
@@ -278,7 +279,7 @@ module _ (x : ℕ) (s : List ℕ) (k : Timed) where
   unfolding hours
   behind-back e f =
       let p = split hours s k e in
-      find-each (λ g. clockFits (clockAs (p .head) g) x ≡ true → fractionAs (g .third) (p .tail) ≡ done (k .ticks) → TimeBack true x (k .ticks) s) hours (shapeOf (p .head)) (p .form-is) (p .found)
+      find-each (λ g. clockFits (clockAs (p .head) g) x ≡ true → fractionAs (g .third) (p .tail) ≡ done (k .ticks) → TimeBack true x (k .ticks) s) hours (p .head) (p .form-is) (p .found)
       (hour-only x (k .ticks) s (p .head) (p .tail) (p .zone) (p .is) (p .next) true, (to-minute x (k .ticks) s (p .head) (p .tail) (p .zone) (p .is) (p .next) true, (full-time x (k .ticks) s (p .head) (p .tail) (p .zone) (p .is) (p .next) true, tt)))
       (ap (λ (c : Clock). clockFits c x) (p .clock) ∙ f) (p .ticks)
 
@@ -290,7 +291,7 @@ module _ (x : ℕ) (s : List ℕ) (k : Timed) where
       let a = p .head in
       let b = p .tail in
       let z = p .zone in
-      find-each (λ g. clockFits (clockAs a g) x ≡ true → fractionAs (g .third) b ≡ done n → TimeBack false x n s) (hours ++ minutes) (shapeOf a) (p .form-is) (p .found) (
+      find-each (λ g. clockFits (clockAs a g) x ≡ true → fractionAs (g .third) b ≡ done n → TimeBack false x n s) (hours ++ minutes) a (p .form-is) (p .found) (
         hour-only x n s a b z (p .is) (p .next) false,
         (
           to-minute x n s a b z (p .is) (p .next) false,

@@ -14,17 +14,19 @@ use Rattle.base.proofs.Ladders.{need-done}
 use Rattle.octets.specs.Places.{digitGood, digitValue, digits, decimalOf, allGood}
 use Rattle.octets.proofs.Places.{digit-rule, number-take, places-good, all-good, good-at}
 use Rattle.clock.proofs.Laws.{Shown, shown, shown-back}
-use Rattle.ascii.specs.Quoted.{bytes}
+use Rattle.shape.specs.Quoted.{bytes}
 use Rattle.clock.specs.Clock.{clockOk, minuteOf}
 use Rattle.ascii.specs.Ascii.{ticksOf, zoneText}
 use Rattle.ascii.proofs.Texts.{digits-length}
 use Rattle.seek.specs.declared.Clock.{Clock}
 use Rattle.seek.specs.Naming.{clockFits}
-use Rattle.tag.specs.Forms.{Place, Form, Forms, form, free, lowest, at, days, months, hours, minutes, find, shapeOf}
+use Rattle.shape.specs.Shapes.{shapeOf}
+use Rattle.tag.specs.Forms.{Place, Form, Forms, form, free, lowest, at, days, months, hours, minutes, find}
 use Rattle.tag.specs.Tags.{until, isFree, isLowest, clockAs, fractionAs, timed, timeIn, goodClock}
 use Rattle.tag.specs.Shortening.{Subfield, digitsBy, cut, lowFrom, Run}
-use Rattle.tag.proofs.Shapes.{shape-append, until-shape, until-past}
-use Rattle.tag.proofs.Cuts.{Piece, sep, num, spell, outline, clean, spell-shape}
+use Rattle.shape.proofs.Shapes.{shape-append}
+use Rattle.tag.proofs.Scans.{until-shape, until-past, find-alike, find-spelled}
+use Rattle.shape.proofs.Pieces.{Piece, sep, num, spell, outline, clean, spell-shape, outlined}
 use Rattle.tag.proofs.Subfields.{clocked}
 use Rattle.tag.proofs.Fractions.{digits-count, first-digits, ticks-kept}
 use Rattle.tag.proofs.Heads.{Tail, none, part, tail-plain, time-told}
@@ -69,7 +71,7 @@ pub record Ticking (hour : Bool) (x k : ℕ) (s : List ℕ) : Type 0 where
   pub alone : Timing (hours ++ minutes) x k s
   pub behind : hour ≡ true → Timing hours x k s
   pub plain : until 84 s ≡ length s
-  pub other : find (days ++ months) (shapeOf s) ≡ refused 4
+  pub other : find (days ++ months) s ≡ refused 4
 
 zone-plain : (z : Bool) → until 84 (zoneText z) ≡ length (zoneText z)
 zone-plain true = refl
@@ -85,14 +87,14 @@ module _ (x k : ℕ) (ps : List Piece) (f : Form) {tail : List ℕ} (t : Tail ta
       record {
         clock = clockAs (spell ps) f;
         told =
-            time-told fs f (spell ps) tail z t (keeps 90 refl u) (keeps 46 refl v) (ap (find fs) (spell-shape ps e) ∙ g)
+            time-told fs f (spell ps) tail z t (keeps 90 refl u) (keeps 46 refl v) (find-spelled fs ps e ∙ g)
             ∙ ap (given (timed (clockAs (spell ps) f))) h;
         fits = i;
         good = j;
       }
 
   ticking : (b : Bool) → until 84 (outline ps) ≡ length (spell ps) → until 90 (outline ps) ≡ length (spell ps) → until 46 (outline ps) ≡ length (spell ps) → find (hours ++ minutes) (outline ps) ≡ done f → (b ≡ true → find hours (outline ps) ≡ done f)
-      → find (days ++ months) (outline ps ++ shapeOf (tail ++ zoneText z)) ≡ refused 4 → fractionAs (f .third) tail ≡ done k → clockFits (clockAs (spell ps) f) x ≡ true → goodClock (clockAs (spell ps) f) ≡ true → Ticking b x k (spell ps ++ (tail ++ zoneText z))
+      → find (days ++ months) (outline ps ++ (tail ++ zoneText z)) ≡ refused 4 → fractionAs (f .third) tail ≡ done k → clockFits (clockAs (spell ps) f) x ≡ true → goodClock (clockAs (spell ps) f) ≡ true → Ticking b x k (spell ps ++ (tail ++ zoneText z))
   ticking b w u v g r o h i j =
       record {
         alone = timing (hours ++ minutes) u v g h i j;
@@ -101,11 +103,11 @@ module _ (x k : ℕ) (ps : List Piece) (f : Form) {tail : List ℕ} (t : Tail ta
             until-past 84 (spell ps) (tail ++ zoneText z) (keeps 84 refl w)
             ∙ ap (λ (n : ℕ). length (spell ps) + n) (until-past 84 tail (zoneText z) (tail-plain 84 refl refl refl t) ∙ ap (λ (n : ℕ). length tail + n) (zone-plain z) ∙ sym (length-append tail (zoneText z)))
             ∙ sym (length-append (spell ps) (tail ++ zoneText z));
-        other = ap (find (days ++ months)) (shape-append (spell ps) (tail ++ zoneText z) ∙ ap (λ (p : List ℕ). p ++ shapeOf (tail ++ zoneText z)) (spell-shape ps e)) ∙ o;
+        other = find-alike (days ++ months) _ _ (shape-append (spell ps) (tail ++ zoneText z) ∙ ap (λ (p : List ℕ). p ++ shapeOf (tail ++ zoneText z)) (outlined ps e) ∙ sym (shape-append (outline ps) (tail ++ zoneText z))) ∙ o;
       }
 
 -- two digits are no calendar
-no-day : (z : Bool) → find (days ++ months) (48 ∷ (48 ∷ shapeOf (zoneText z))) ≡ refused 4
+no-day : (z : Bool) → find (days ++ months) (48 ∷ (48 ∷ zoneText z)) ≡ refused 4
 unfolding days months shapeOf
 no-day true = refl
 no-day false = refl
@@ -168,19 +170,19 @@ module _ (x d f : ℕ) (hx : x ≤ 86400) (hd : d ≤ 12) (hf : f < 10 ^ d) (z :
 
   -- ---- without a fraction
   hour-only : m ≡ 0 → s ≡ 0 → lowFrom 0 fraction ≡ true → Ticking true x (ticksOf d f) (remaining 0 1)
-  unfolding hours minutes clockFits clockAs goodClock
+  unfolding shapeOf hours minutes clockFits clockAs goodClock
   hour-only p q low =
       ticking x (ticksOf d f) (num 2 h ∷ []) (form (bytes "00") (at 0) lowest lowest free) none z refl true refl refl refl refl (λ t. refl) (no-day z)
       (none-told d f lowest hd hf refl low) (all-three (may-is _ _ h-is) (may-is _ _ (sym p)) (may-is _ _ (sym q))) (rw h-is (rw (p, q) at ok))
 
   to-minute : s ≡ 0 → lowFrom 0 fraction ≡ true → Ticking true x (ticksOf d f) (remaining 0 2)
-  unfolding hours minutes days months clockFits clockAs goodClock
+  unfolding shapeOf hours minutes days months clockFits clockAs goodClock
   to-minute q low =
       ticking x (ticksOf d f) (num 2 h ∷ sep 58 ∷ num 2 m ∷ []) (form (bytes "00:00") (at 0) (at 3) lowest free) none z refl true refl refl refl refl (λ t. refl) refl
       (none-told d f lowest hd hf refl low) (all-three (may-is _ _ h-is) (may-is _ _ m-is) (may-is _ _ (sym q))) (rw (h-is, m-is) (rw q at ok))
 
   minute-only : s ≡ 0 → lowFrom 0 fraction ≡ true → Ticking false x (ticksOf d f) (remaining 1 2)
-  unfolding hours minutes days months clockFits clockAs goodClock
+  unfolding shapeOf hours minutes days months clockFits clockAs goodClock
   minute-only q low =
       ticking x (ticksOf d f) (sep 58 ∷ num 2 m ∷ []) (form (bytes ":00") free (at 1) lowest free) none z refl false refl refl refl refl (λ t. absurd (false≢true t)) refl
       (none-told d f lowest hd hf refl low) (all-three refl (may-is _ _ m-is) (may-is _ _ (sym q))) (rw m-is (rw q at (ok-hour h m s ok)))
@@ -194,28 +196,28 @@ module _ (x d f : ℕ) (hx : x ≤ 86400) (hd : d ≤ 12) (hf : f < 10 ^ d) (z :
 
   module _ (j : ℕ) (k : j ≤ d) (low : lowFrom j fraction ≡ true) where
     full-time : Ticking true x (ticksOf d f) (remaining 0 (suc (suc (suc j))))
-    unfolding hours minutes days months clockFits clockAs goodClock
+    unfolding shapeOf hours minutes days months clockFits clockAs goodClock
     full-time =
         let (t, e) = ending j k low in
         ticking x (ticksOf d f) (num 2 h ∷ sep 58 ∷ num 2 m ∷ sep 58 ∷ num 2 s ∷ []) (form (bytes "00:00:00") (at 0) (at 3) (at 6) free) t z refl true refl refl refl refl (λ t. refl) refl
         (e 6) (all-three (may-is _ _ h-is) (may-is _ _ m-is) (may-is _ _ s-is)) (rw (h-is, m-is, s-is) ok)
 
     from-minute : Ticking false x (ticksOf d f) (remaining 1 (suc (suc (suc j))))
-    unfolding hours minutes days months clockFits clockAs goodClock
+    unfolding shapeOf hours minutes days months clockFits clockAs goodClock
     from-minute =
         let (t, e) = ending j k low in
         ticking x (ticksOf d f) (sep 58 ∷ num 2 m ∷ sep 58 ∷ num 2 s ∷ []) (form (bytes ":00:00") free (at 1) (at 4) free) t z refl false refl refl refl refl (λ t. absurd (false≢true t)) refl
         (e 4) (all-three refl (may-is _ _ m-is) (may-is _ _ s-is)) (rw (m-is, s-is) (ok-hour h m s ok))
 
     from-second : Ticking false x (ticksOf d f) (remaining 2 (suc (suc (suc j))))
-    unfolding hours minutes days months clockFits clockAs goodClock
+    unfolding shapeOf hours minutes days months clockFits clockAs goodClock
     from-second =
         let (t, e) = ending j k low in
         ticking x (ticksOf d f) (sep 58 ∷ sep 58 ∷ num 2 s ∷ []) (form (bytes "::00") free free (at 2) free) t z refl false refl refl refl refl (λ t. absurd (false≢true t)) refl
         (e 2) (all-three refl refl (may-is _ _ s-is)) (rw s-is (ok-minute m s (ok-hour h m s ok)))
 
   from-fraction : (j : ℕ) → suc j ≤ d → lowFrom (suc j) fraction ≡ true → Ticking false x (ticksOf d f) (remaining 3 (suc (suc (suc (suc j)))))
-  unfolding hours minutes days months clockFits clockAs goodClock
+  unfolding shapeOf hours minutes days months clockFits clockAs goodClock
   from-fraction j k low =
       rw (first-digits j (digits d f) (omega (arith, digits-length d f)))
       (ticking x (ticksOf d f) (sep 58 ∷ sep 58 ∷ []) (form (bytes "::") free free free free) (part (take (suc j) (digits d f)) (part-good d (suc j) f k)) z refl false refl refl refl refl (λ t. absurd (false≢true t)) refl

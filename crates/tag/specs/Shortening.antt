@@ -8,10 +8,10 @@ use Rattle.base.specs.Outcome.{done, refused}
 use Rattle.scale.specs.Time.{Time}
 use Rattle.leap.specs.Table.{Table}
 use Rattle.utc.specs.Reckoning.{readBy}
-use Rattle.ascii.specs.Quoted.{bytes}
-use Rattle.ascii.specs.Shapes.{shaped}
+use Rattle.shape.specs.Quoted.{bytes}
+use Rattle.shape.specs.Shapes.{same, shaped}
+use Rattle.ascii.specs.Shapes.{codeShapes}
 use Rattle.ascii.specs.Ascii.{frontOf, layoutOf, zoneText, text}
-use Rattle.tag.specs.Forms.{same}
 
 -- a subfield: the separator before it, its text, and the text of its lowest value
 pub record Subfield : Type 0 where
@@ -96,7 +96,7 @@ pub data Shortening (code : List ℕ) : List ℕ → Type 0 where
 
 -- a full code that a tag is a shortening of
 pub record Full (tag code : List ℕ) : Type 0 where
-  pub full : shaped code ≡ true
+  pub full : shaped codeShapes code ≡ true
   pub short : Shortening code tag
 
 -- the naming rule: some full code of which the tag is a shortening reads, by the table, to the moment

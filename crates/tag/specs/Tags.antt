@@ -15,7 +15,7 @@ use Rattle.seek.specs.declared.Want.the-variants.{Free, Is}
 use Rattle.seek.specs.declared.Calendar.{Calendar}
 use Rattle.seek.specs.declared.Clock.{Clock}
 use Rattle.seek.specs.declared.Tag.{Tag}
-use Rattle.tag.specs.Forms.{Place, free, lowest, at, Form, Forms, shapeOf, days, months, hours, minutes, find}
+use Rattle.tag.specs.Forms.{Place, free, lowest, at, Form, Forms, days, months, hours, minutes, find}
 use Rattle.tag.specs.declared.TagAnswer.{TagAnswer}
 use Rattle.tag.specs.declared.TagAnswer.the-variants as A
 
@@ -68,7 +68,7 @@ timed k n = record { clock = k; ticks = n }
 unfoldable pub unzoned : Forms → List ℕ → Outcome Timed
 unzoned fs s =
     let p = until 46 s in
-    andThen (find fs (shapeOf (take p s))) (λ f. given (timed (clockAs (take p s) f)) (fractionAs (f .third) (drop p s)))
+    andThen (find fs (take p s)) (λ f. given (timed (clockAs (take p s) f)) (fractionAs (f .third) (drop p s)))
 
 -- "Z only after a time": nothing follows it
 unfoldable pub timeIn : Forms → List ℕ → Outcome Timed
@@ -90,11 +90,11 @@ aloneBy s (done f) = done (tag (calendarAs s f) midnight)
 aloneBy s (refused n) = given (tag anyDay) (timeIn (hours ++ minutes) s)
 
 unfoldable pub alone : List ℕ → Outcome Tag
-alone s = aloneBy s (find (days ++ months) (shapeOf s))
+alone s = aloneBy s (find (days ++ months) s)
 
 -- "Joined by T, the calendar must reach its day and the time must begin at hh"
 unfoldable pub joined : List ℕ → List ℕ → Outcome Tag
-joined c k = andThen (find days (shapeOf c)) (λ f. given (tag (calendarAs c f)) (timeIn hours k))
+joined c k = andThen (find days c) (λ f. given (tag (calendarAs c f)) (timeIn hours k))
 
 unfoldable pub formed : List ℕ → Outcome Tag
 formed s = let t = until 84 s in cond (ltb t (length s)) (joined (take t s) (drop (t + 1) s)) (alone s)

@@ -8,7 +8,7 @@ use lib.ListN.{take, drop}
 use lib.Seq.{length-take-le}
 use Rattle.base.specs.Outcome.{done}
 use Rattle.seek.specs.declared.Clock.{Clock}
-use Rattle.tag.specs.Forms.{Place, shapeOf, find}
+use Rattle.tag.specs.Forms.{Place, find}
 use Rattle.tag.specs.Tags.{fractionAs, timed}
 use Rattle.tag.specs.Inner.{formAt, between, saysPart}
 use Rattle.tag.proofs.Scans.{rest-is}
@@ -65,7 +65,7 @@ text c = slice (c .before .before)
 abbrev cut : tie.After-form-of → ℕ
 cut c = c .before .before .until .result
 
-own : (c : tie.Else1) → find (between 8 (c .before .before .before .before .before .args .to)) (shapeOf (take (cut (c .before)) (text (c .before)))) ≡ done (formAt (c .before .form-of .result))
+own : (c : tie.Else1) → find (between 8 (c .before .before .before .before .before .args .to)) (take (cut (c .before)) (text (c .before))) ≡ done (formAt (c .before .form-of .result))
 own c =
     let f = c .before in
     let to = f .before .before .before .before .args .to in

@@ -2,24 +2,27 @@
 use mathlib.Core.Path.{_≡_, refl, sym, ap, ap₂, _∙_}
 use mathlib.Core.Bool.{Bool, true, false, not, _&&_}
 use mathlib.Core.List.{List, [], _∷_, _++_}
-use Prim.Native.Nat.{ℕ, _+_}
+use Prim.Native.Nat.{ℕ, _+_, _≤_}
+use native.Mathlib.Nat.{add-zero}
 use native.Mathlib.Omega.{arith}
 use lib.Dec.{eqb}
-use lib.ListN.{take, drop, take-append-drop}
-use lib.Seq.{drop-drop}
-use borrow.Author.Tests.{ne-eqb, not-true}
-use Rattle.base.proofs.Bools.{and-true, never-both}
-use Rattle.octets.specs.Places.{digitGood, digits}
+use lib.ListN.{length, getD, take, drop, length-drop, take-append-drop, drop-of-length-le}
+use lib.Seq.{drop-drop, getD-drop}
+use borrow.Author.Tests.{not-true}
+use Rattle.base.proofs.Bools.{and-true}
+use Rattle.octets.specs.Places.{allGood, digitGood, digits, decimalOf}
 use Rattle.octets.proofs.Places.{digit-rule, places-number}
-use Rattle.ascii.specs.Ascii.{numberAt}
-use Rattle.ascii.proofs.Shapes.{zeros}
-use Rattle.tag.specs.Forms.{shapeOf}
-use Rattle.tag.proofs.Shapes.{kind-other, shape-append, shape-digits, shape-sep, shape-run}
+use Rattle.shape.specs.Shapes.{kindOf, shapeOf}
+use Rattle.shape.proofs.Shapes.{zeros, kind-other, shape-append, shape-shape, shape-digits, run-in, run-out, mark-in, mark-out}
 
 -- a separator, or a number in w digits
 pub data Piece : Type 0 where
   sep : ℕ → Piece
   num : ℕ → ℕ → Piece
+
+-- w digits, where their number does not matter
+abbrev pub run : ℕ → Piece
+run w = num w 0
 
 abbrev pub spell : List Piece → List ℕ
 spell [] = []
@@ -31,6 +34,11 @@ outline [] = []
 outline (sep c ∷ ps) = c ∷ outline ps
 outline (num w n ∷ ps) = zeros w ++ outline ps
 
+abbrev pub size : List Piece → ℕ
+size [] = 0
+size (sep c ∷ ps) = 1 + size ps
+size (num w n ∷ ps) = w + size ps
+
 -- no separator is a digit
 abbrev pub clean : List Piece → Bool
 clean [] = true
@@ -41,7 +49,13 @@ clean (num w n ∷ ps) = clean ps
 abbrev pub Agree : ℕ → List ℕ → List Piece → Type 0
 Agree i s [] = Unit {0}
 Agree i s (sep c ∷ ps) = Agree (i + 1) s ps
-Agree i s (num w n ∷ ps) = (numberAt s i w ≡ n) × Agree (i + w) s ps
+Agree i s (num w n ∷ ps) = (decimalOf (drop i s) w ≡ n) × Agree (i + w) s ps
+
+-- the separators and digits of a text from a place on
+abbrev pub Stand : ℕ → List ℕ → List Piece → Type 0
+Stand i s [] = Unit {0}
+Stand i s (sep c ∷ ps) = (eqb (getD s i 0) c ≡ true) × Stand (i + 1) s ps
+Stand i s (num w n ∷ ps) = (allGood digitGood (drop i s) w ≡ true) × Stand (i + w) s ps
 
 pub spell-shape : (ps : List Piece) → clean ps ≡ true → shapeOf (spell ps) ≡ outline ps
 unfolding shapeOf
@@ -61,11 +75,26 @@ spelled [] s i e f a = none (drop i s) f
     none (x ∷ t) h = let z : _≡_ {A = ℕ} 0 1 = cc in absurd (omega arith)
 spelled (sep c ∷ ps) s i e f a =
     let (x, b) = and-true (not (digitGood c)) (clean ps) e in
-    let n : eqb c 48 ≡ false = ne-eqb c 48 (λ z. never-both (ap digitGood z) (not-true _ x)) in
-    let (p, q) = shape-sep c (outline ps) (drop i s) n f in
+    let (p, q) = mark-in c (outline ps) (drop i s) (not-true _ x) f in
     p ∙ ap (λ (l : List ℕ). c ∷ l) (drop-drop 1 i s ∙ spelled ps s (i + 1) b (rw drop-drop at q) a)
 spelled (num w n ∷ ps) s i e f (a, b) =
-    let (l, g, q) = shape-run w (outline ps) (drop i s) f in
+    let (l, g, q) = run-in w (outline ps) (drop i s) f in
     let d : digits w n ≡ take w (drop i s) = ap (digits w) (sym a) ∙ places-number digit-rule (drop i s) w l g in
     sym (take-append-drop w (drop i s))
     ∙ ap₂ (λ (x y : List ℕ). x ++ y) (sym d) (drop-drop w i s ∙ spelled ps s (i + w) e (rw drop-drop at q) b)
+
+-- a text whose separators and digits stand has the shape
+pub stands : (ps : List Piece) (s : List ℕ) (i : ℕ) → clean ps ≡ true → length s ≡ i + size ps → Stand i s ps → shapeOf (drop i s) ≡ outline ps
+unfolding shapeOf
+stands [] s i e l t = let n : drop i s ≡ [] = drop-of-length-le s {i = i} (omega arith) in rw n
+stands (sep c ∷ ps) s i e l (m, t) =
+    let (x, b) = and-true (not (digitGood c)) (clean ps) e in
+    let k : 1 ≤ length (drop i s) = simp length-drop (omega arith) in
+    mark-out c (outline ps) (drop i s) (not-true _ x) k (rw (getD-drop, add-zero) m) (rw drop-drop (stands ps s (i + 1) b (omega arith) t))
+stands (num w n ∷ ps) s i e l (g, t) =
+    let k : w ≤ length (drop i s) = simp length-drop (omega arith) in
+    run-out w (outline ps) (drop i s) k g (rw drop-drop (stands ps s (i + w) e (omega arith) t))
+
+-- its outline is of the same shape
+pub outlined : (ps : List Piece) → clean ps ≡ true → shapeOf (spell ps) ≡ shapeOf (outline ps)
+outlined ps e = sym (shape-shape (spell ps)) ∙ ap shapeOf (spell-shape ps e)
