@@ -2,7 +2,7 @@
 use mathlib.Core.Path.{_≡_, refl, sym, ap, _∙_}
 use mathlib.Core.Logic.{_⊎_, ⊎-elim}
 use mathlib.Core.Bool.{Bool, true, false, cond, not, _&&_, _||_, false≢true}
-use mathlib.Core.List.{List, [], _∷_}
+use mathlib.Core.List.{List, [], _∷_, map}
 use Prim.Native.Nat.{ℕ, zero, suc, _≤_, _<_}
 use native.Mathlib.Nat.{eq-or-lt-of-le}
 use native.Mathlib.Omega.{arith}
@@ -11,8 +11,18 @@ use lib.Dec.{eqb}
 use lib.ListN.{length, take}
 use lib.Seq.{take-length}
 use Rattle.base.proofs.Bools.{never-both, and-true}
+use Rattle.shape.specs.Quoted.{bytes}
 use Rattle.shape.specs.Shapes.{kindOf, shapeOf, Shapes, same, fits, shaped, leads, begins, alongTo, along}
 use Rattle.shape.proofs.Tests.{or-left, or-right, yes-both, same-is}
+
+-- ---- by computation
+abbrev two : Shapes
+two = bytes "0000-00" ∷ bytes "-00" ∷ []
+
+-- a digit for another; a letter for a digit; a digit for a dash; a text too short, and one too long; one that begins nothing
+starts : map (along two) (bytes "2016-99" ∷ bytes "2016-9x" ∷ bytes "20167" ∷ bytes "-1" ∷ bytes "-12-31" ∷ bytes "T12" ∷ bytes "" ∷ []) ≡ 7 ∷ 6 ∷ 4 ∷ 2 ∷ 3 ∷ 0 ∷ 0 ∷ []
+unfolding along begins shapeOf
+starts = refl
 
 -- ---- it is a start that begins one of the shapes
 to-le : (ps : Shapes) (s : List ℕ) (n : ℕ) → alongTo ps s n ≤ n

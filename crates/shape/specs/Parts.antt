@@ -21,12 +21,12 @@ abbrev pub dateB : List ℕ
 dateB = bytes "0000-000"
 
 -- between a date and a time
-abbrev pub mark : List ℕ
-mark = bytes "T"
+abbrev pub markT : List ℕ
+markT = bytes "T"
 
 -- the full time
-abbrev pub clock : List ℕ
-clock = bytes "00:00:00"
+abbrev pub fullClock : List ℕ
+fullClock = bytes "00:00:00"
 
 -- "a period and 1 to 12 digits"
 abbrev pub fractions : Shapes

@@ -19,7 +19,7 @@ use Rattle.ascii.proofs.Shapes.{lay}
 use Rattle.seek.specs.declared.Tag.{Tag}
 use Rattle.seek.specs.Naming.{dayFits, clockFits}
 use Rattle.tag.specs.Forms.{Form, days, months, hours, minutes, find}
-use Rattle.tag.specs.Tags.{until, calendarAs, timeIn, Timed, tag, midnight, anyDay, aloneBy, alone, joined, formed, goodTag, tagOf}
+use Rattle.tag.specs.Tags.{until, calendarAs, timeIn, Daytime, tag, midnight, anyDay, aloneBy, alone, joined, formed, goodTag, wantOf}
 use Rattle.tag.specs.Shortening.{cut, lowFrom, Run, Shortening, calendar, time, both}
 use Rattle.tag.proofs.Scans.{until-cut}
 use Rattle.tag.proofs.Subfields.{dated, clocked, calendar-of, clock-of, zone-of}
@@ -38,8 +38,8 @@ pub record Completed (n x k : ℕ) (s : List ℕ) : Type 0 where
 -- ---- what a tag was formed of
 pub data Parts (s : List ℕ) (t : Tag) : Type 0 where
   day : (f : Form) → find (days ++ months) s ≡ done f → tag (calendarAs s f) midnight ≡ t → Parts s t
-  clock : (k : Timed) → timeIn (hours ++ minutes) s ≡ done k → tag anyDay k ≡ t → Parts s t
-  joint : (c r : List ℕ) (f : Form) (k : Timed) → s ≡ c ++ (84 ∷ r) → find days c ≡ done f → timeIn hours r ≡ done k → tag (calendarAs c f) k ≡ t → Parts s t
+  clock : (k : Daytime) → timeIn (hours ++ minutes) s ≡ done k → tag anyDay k ≡ t → Parts s t
+  joint : (c r : List ℕ) (f : Form) (k : Daytime) → s ≡ c ++ (84 ∷ r) → find days c ≡ done f → timeIn hours r ≡ done k → tag (calendarAs c f) k ≡ t → Parts s t
 
 parts-alone : (s : List ℕ) (t : Tag) → alone s ≡ done t → Parts s t
 unfolding alone
@@ -56,7 +56,7 @@ parts-joined s c r t i e =
     let (k, (p, q)) = given-done (tag (calendarAs c f)) (timeIn hours r) t b in
     joint c r f k i a p q
 
-parts-formed : (s : List ℕ) (t : Tag) → formed s ≡ done t → Parts s t
+pub parts-formed : (s : List ℕ) (t : Tag) → formed s ≡ done t → Parts s t
 unfolding formed
 parts-formed s t e = go (ltb (until 84 s) (length s)) refl e
   where
@@ -64,8 +64,8 @@ parts-formed s t e = go (ltb (until 84 s) (length s)) refl e
     go true p e = parts-joined s _ _ t (until-cut 84 s (ltb-true (until 84 s) (length s) p)) e
     go false p e = parts-alone s t e
 
-pub parts : (s : List ℕ) (t : Tag) → tagOf s ≡ done t → Parts s t × (goodTag t ≡ true)
-unfolding tagOf
+pub parts : (s : List ℕ) (t : Tag) → wantOf s ≡ done t → Parts s t × (goodTag t ≡ true)
+unfolding wantOf
 parts s t e =
     let (a, b) = need-done (leb 1 (length s)) 1 _ t e in
     let (u, (c, d)) = then-done (formed s) (λ t. need (goodTag t) 4 (done t)) t b in

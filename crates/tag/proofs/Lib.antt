@@ -14,4 +14,5 @@ pub mod DatesBack
 pub mod TimesBack
 pub mod Completed
 pub mod Witness
+pub mod Permitted
 pub mod Naming

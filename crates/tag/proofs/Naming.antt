@@ -33,7 +33,7 @@ use Rattle.ascii.proofs.Ladder.{text-shaped}
 use Rattle.ascii.proofs.Promises.{code-reads}
 use Rattle.seek.specs.declared.Tag.{Tag}
 use Rattle.seek.specs.Naming.{dayFits, clockFits, fitsReading}
-use Rattle.tag.specs.Tags.{tagOf}
+use Rattle.tag.specs.Tags.{wantOf}
 use Rattle.tag.specs.Shortening.{Shortening, Full, Names, Nameless}
 use Rattle.tag.proofs.Shortened.{Wants, wants}
 use Rattle.tag.proofs.Completed.{Completed, Parts, parts, completed}
@@ -121,7 +121,7 @@ module _ (t : Table) (g : reckons t ≡ true) where
       (rw (u, d, c), b ∙ sym i)
 
   -- the tag names what a full code of which it is a shortening reads to ..
-  pub names-named : (s : List ℕ) (w : Tag) → tagOf s ≡ done w → (m : Time) → Names t s m → Named w m
+  pub names-named : (s : List ℕ) (w : Tag) → wantOf s ≡ done w → (m : Time) → Names t s m → Named w m
   names-named s w e m (code, (f, r)) =
       ⊎-elim (λ (h : text code ≡ refused 4). never 4 m (sym (ap (readBy t) h) ∙ r)) (λ (c : Spelled code). go c) (full-cases code (f .full))
     where
@@ -134,7 +134,7 @@ module _ (t : Table) (g : reckons t ≡ true) where
           subst (λ (y : Tag). Named y m) i (names-by (q .wanted) m (c .day) (c .second) _ (c .low) (q .day) (q .second) (q .ticks) h)
 
   -- .. and nothing else
-  pub named-names : (s : List ℕ) (w : Tag) → tagOf s ≡ done w → (m : Time) → Named w m → Names t s m
+  pub named-names : (s : List ℕ) (w : Tag) → wantOf s ≡ done w → (m : Time) → Named w m → Names t s m
   named-names s w e m (f, i) = go (readingOf t (m .sec)) refl f
     where
       p : Parts s w
@@ -149,15 +149,15 @@ module _ (t : Table) (g : reckons t ≡ true) where
           (code, (q, read-so t (text code) _ m r (time-done t _ (m .sec) (utc-index t (table-good t g) (u .day) (u .second) (b .low) ∙ b .back) ∙ ap (λ (k : ℕ). done (record { sec = m .sec; ticks = k })) (sym i))))
 
 -- ---- refused 4
-pub refused-nameless : (s : List ℕ) → tagOf s ≡ refused 4 → Nameless s
+pub refused-nameless : (s : List ℕ) → wantOf s ≡ refused 4 → Nameless s
 refused-nameless s e code f =
     ⊎-elim (λ (h : text code ≡ refused 4). h) (λ (c : Spelled code). let w = spelled-wants s code c (f .short) in never 4 (w .wanted) (sym e ∙ w .told)) (full-cases code (f .full))
 
 -- .. of a text that is not empty, exactly when no full code of which it is a shortening reads to anything but 4
-pub nameless-refused : (s : List ℕ) → 1 ≤ length s → Nameless s → tagOf s ≡ refused 4
-nameless-refused s l none = go (tagOf s) refl
+pub nameless-refused : (s : List ℕ) → 1 ≤ length s → Nameless s → wantOf s ≡ refused 4
+nameless-refused s l none = go (wantOf s) refl
   where
-    go : (o : Outcome Tag) → tagOf s ≡ o → tagOf s ≡ refused 4
+    go : (o : Outcome Tag) → wantOf s ≡ o → wantOf s ≡ refused 4
     go (refused n) e = e ∙ ap refused (tag-4 s n l e)
     go (done w) e =
         let (p, g) = parts s w e in

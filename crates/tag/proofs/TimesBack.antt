@@ -23,7 +23,7 @@ use Rattle.seek.specs.declared.Clock.{Clock}
 use Rattle.seek.specs.Naming.{clockFits}
 use Rattle.shape.specs.Shapes.{shapeOf}
 use Rattle.tag.specs.Forms.{Place, Form, Forms, form, free, lowest, at, hours, minutes, find}
-use Rattle.tag.specs.Tags.{until, isFree, isLowest, clockAs, fractionAs, Timed, timed, unzoned, timeIn}
+use Rattle.tag.specs.Tags.{until, isFree, isLowest, clockAs, fractionAs, Daytime, daytime, unzoned, timeIn}
 use Rattle.tag.specs.Shortening.{digitsBy, cut, lowFrom, Run}
 use Rattle.tag.proofs.Scans.{until-le, until-cut, find-each}
 use Rattle.shape.proofs.Pieces.{Piece, sep, num, spell, outline, clean, Agree, spelled}
@@ -64,23 +64,23 @@ follows (b ∷ s) = go (eqb b 46) refl (follows s)
     go true e r = subst (λ (x : ℕ). Follows (x ∷ s)) (sym (eqb-true b 46 e)) (part s)
     go false e r = r
 
-record Split (fs : Forms) (s : List ℕ) (k : Timed) : Type 0 where
-  head : List ℕ
-  tail : List ℕ
-  zone : Bool
-  form-is : Form
-  is : s ≡ head ++ (tail ++ zoneText zone)
-  next : Follows tail
-  found : find fs head ≡ done form-is
-  clock : clockAs head form-is ≡ k .clock
-  ticks : fractionAs (form-is .third) tail ≡ done (k .ticks)
+pub record Split (fs : Forms) (s : List ℕ) (k : Daytime) : Type 0 where
+  pub head : List ℕ
+  pub tail : List ℕ
+  pub zone : Bool
+  pub form-is : Form
+  pub is : s ≡ head ++ (tail ++ zoneText zone)
+  pub next : Follows tail
+  pub found : find fs head ≡ done form-is
+  pub clock : clockAs head form-is ≡ k .clock
+  pub ticks : fractionAs (form-is .third) tail ≡ done (k .ticks)
 
-split-body : (fs : Forms) (s u : List ℕ) (z : Bool) (k : Timed) → s ≡ u ++ zoneText z → unzoned fs u ≡ done k → Split fs s k
+split-body : (fs : Forms) (s u : List ℕ) (z : Bool) (k : Daytime) → s ≡ u ++ zoneText z → unzoned fs u ≡ done k → Split fs s k
 unfolding unzoned
 split-body fs s u z k i e =
     let p = until 46 u in
-    let (f, (c, d)) = then-done (find fs (take p u)) (λ f. given (timed (clockAs (take p u) f)) (fractionAs (f .third) (drop p u))) k e in
-    let (n, (g, h)) = given-done (timed (clockAs (take p u) f)) (fractionAs (f .third) (drop p u)) k d in
+    let (f, (c, d)) = then-done (find fs (take p u)) (λ f. given (daytime (clockAs (take p u) f)) (fractionAs (f .third) (drop p u))) k e in
+    let (n, (g, h)) = given-done (daytime (clockAs (take p u) f)) (fractionAs (f .third) (drop p u)) k d in
     record {
       head = take p u;
       tail = drop p u;
@@ -89,11 +89,11 @@ split-body fs s u z k i e =
       is = i ∙ ap (λ (t : List ℕ). t ++ zoneText z) (sym (take-append-drop p u)) ∙ append-assoc (take p u) (drop p u) (zoneText z);
       next = follows u;
       found = c;
-      clock = ap (λ (t : Timed). t .clock) h;
-      ticks = g ∙ ap (λ (t : Timed). done (t .ticks)) h;
+      clock = ap (λ (t : Daytime). t .clock) h;
+      ticks = g ∙ ap (λ (t : Daytime). done (t .ticks)) h;
     }
 
-split : (fs : Forms) (s : List ℕ) (k : Timed) → timeIn fs s ≡ done k → Split fs s k
+pub split : (fs : Forms) (s : List ℕ) (k : Daytime) → timeIn fs s ≡ done k → Split fs s k
 unfolding timeIn
 split fs s k e =
     let (a, b) = need-done (leb (length s) (until 90 s + 1)) 4 _ k e in
@@ -274,7 +274,7 @@ module _ (x k : ℕ) (s head tail : List ℕ) (z : Bool) (is : s ≡ head ++ (ta
       long false 3 free (sep 58 ∷ sep 58 ∷ []) refl e tt (omega arith) (λ i. absurd (false≢true i)) (λ d i. omega (arith, i refl)) (λ d n. refl) (λ t. refl) q
 
 -- each time that a tag has: behind a T, and alone
-module _ (x : ℕ) (s : List ℕ) (k : Timed) where
+module _ (x : ℕ) (s : List ℕ) (k : Daytime) where
   pub behind-back : timeIn hours s ≡ done k → clockFits (k .clock) x ≡ true → TimeBack true x (k .ticks) s
   unfolding hours
   behind-back e f =

@@ -22,7 +22,7 @@ use Rattle.seek.specs.declared.Clock.{Clock}
 use Rattle.seek.specs.Naming.{clockFits}
 use Rattle.shape.specs.Shapes.{shapeOf}
 use Rattle.tag.specs.Forms.{Place, Form, Forms, form, free, lowest, at, days, months, hours, minutes, find}
-use Rattle.tag.specs.Tags.{until, isFree, isLowest, clockAs, fractionAs, timed, timeIn, goodClock}
+use Rattle.tag.specs.Tags.{until, isFree, isLowest, clockAs, fractionAs, daytime, timeIn, goodClock}
 use Rattle.tag.specs.Shortening.{Subfield, digitsBy, cut, lowFrom, Run}
 use Rattle.shape.proofs.Shapes.{shape-append}
 use Rattle.tag.proofs.Scans.{until-shape, until-past, find-alike, find-spelled}
@@ -62,7 +62,7 @@ part-told d j f p h k l e low =
 -- ---- what a shortened time wants
 pub record Timing (fs : Forms) (x k : ℕ) (s : List ℕ) : Type 0 where
   pub clock : Clock
-  pub told : timeIn fs s ≡ done (timed clock k)
+  pub told : timeIn fs s ≡ done (daytime clock k)
   pub fits : clockFits clock x ≡ true
   pub good : goodClock clock ≡ true
 
@@ -88,7 +88,7 @@ module _ (x k : ℕ) (ps : List Piece) (f : Form) {tail : List ℕ} (t : Tail ta
         clock = clockAs (spell ps) f;
         told =
             time-told fs f (spell ps) tail z t (keeps 90 refl u) (keeps 46 refl v) (find-spelled fs ps e ∙ g)
-            ∙ ap (given (timed (clockAs (spell ps) f))) h;
+            ∙ ap (given (daytime (clockAs (spell ps) f))) h;
         fits = i;
         good = j;
       }

@@ -23,7 +23,7 @@ use Rattle.seek.specs.declared.Tag.{Tag}
 use Rattle.seek.specs.Naming.{may, dayFits, clockFits}
 use Rattle.shape.specs.Shapes.{fits}
 use Rattle.tag.specs.Forms.{Place, Form, Forms, days, months, hours, minutes, find}
-use Rattle.tag.specs.Tags.{until, isFree, isLowest, midnight, calendarAs, clockAs, unzoned, timeIn, timed, fractionAs, tag, alone, aloneBy, anyDay, joined, formed, orElse, goodDay, goodDayBy, goodClock, goodTag, tagOf}
+use Rattle.tag.specs.Tags.{until, isFree, isLowest, midnight, calendarAs, clockAs, unzoned, timeIn, daytime, fractionAs, tag, alone, aloneBy, anyDay, joined, formed, orElse, goodDay, goodDayBy, goodClock, goodTag, wantOf}
 use Rattle.tag.proofs.Scans.{find-each}
 use Rattle.tag.proofs.Completed.{Parts, day, clock, joint}
 
@@ -97,7 +97,7 @@ second-exists t g =
     (secondOfDay h m s, w .low, rw (w .hour, w .minute, w .second, may-else (k .hour) 23, may-else (k .minute) 59, may-else (k .second) 0))
 
 -- ---- refused 4, and nothing else
-abbrev Only4 : {A : Type 0} → Outcome A → Type 0
+abbrev pub Only4 : {A : Type 0} → Outcome A → Type 0
 Only4 o = (n : ℕ) → o ≡ refused n → n ≡ 4
 
 four-done : {A : Type 0} (a : A) → Only4 (done a)
@@ -133,7 +133,7 @@ time-4 fs s =
     let u = take (until 90 s) s in
     let p = until 46 u in
     four-need (leb (length s) (until 90 s + 1)) _
-    (four-then (find fs (take p u)) _ (find-4 fs (take p u)) (λ f. four-given (timed (clockAs (take p u) f)) (fractionAs (f .third) (drop p u)) (fraction-4 (f .third) (drop p u))))
+    (four-then (find fs (take p u)) _ (find-4 fs (take p u)) (λ f. four-given (daytime (clockAs (take p u) f)) (fractionAs (f .third) (drop p u)) (fraction-4 (f .third) (drop p u))))
 
 alone-4 : (s : List ℕ) → Only4 (alone s)
 unfolding alone
@@ -143,7 +143,7 @@ alone-4 s = go (find (days ++ months) s)
     go (done f) = four-done (tag (calendarAs s f) midnight)
     go (refused n) = four-given (tag anyDay) (timeIn (hours ++ minutes) s) (time-4 (hours ++ minutes) s)
 
-formed-4 : (s : List ℕ) → Only4 (formed s)
+pub formed-4 : (s : List ℕ) → Only4 (formed s)
 unfolding formed joined
 formed-4 s = go (ltb (until 84 s) (length s))
   where
@@ -154,7 +154,7 @@ formed-4 s = go (ltb (until 84 s) (length s))
         four-then (find days c) _ (find-4 days c) (λ f. four-given (tag (calendarAs c f)) (timeIn hours r) (time-4 hours r))
     go false = alone-4 s
 
-pub tag-4 : (s : List ℕ) (n : ℕ) → 1 ≤ length s → tagOf s ≡ refused n → n ≡ 4
-unfolding tagOf
+pub tag-4 : (s : List ℕ) (n : ℕ) → 1 ≤ length s → wantOf s ≡ refused n → n ≡ 4
+unfolding wantOf
 tag-4 s n l e =
     four-then (formed s) _ (formed-4 s) (λ t. four-need (goodTag t) _ (four-done t)) n (sym (need-yes 1 _ (le-leb 1 (length s) l)) ∙ e)

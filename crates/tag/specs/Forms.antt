@@ -5,7 +5,7 @@ use Prim.Native.Nat.{ℕ}
 use Rattle.base.specs.Outcome.{Outcome, done, refused}
 use Rattle.shape.specs.Quoted.{bytes}
 use Rattle.shape.specs.Shapes.{Shapes, fits}
-use Rattle.shape.specs.Parts.{followed, perhaps, dateA, dateB, mark, clock, fractions, zones}
+use Rattle.shape.specs.Parts.{followed, perhaps, dateA, dateB, markT, fullClock, fractions, zones}
 
 -- where a field is: "Dropped on the left: .. the subfields are free. Dropped on the right: .. the subfields take their lowest value"; any other stands at a place of the text
 pub data Place : Type 0 where
@@ -47,7 +47,7 @@ unfoldable pub hours : Forms
 hours =
     form (bytes "00") (at 0) lowest lowest free ∷
     form (bytes "00:00") (at 0) (at 3) lowest free ∷
-    form clock (at 0) (at 3) (at 6) free ∷ []
+    form fullClock (at 0) (at 3) (at 6) free ∷ []
 
 unfoldable pub minutes : Forms
 minutes =
@@ -78,4 +78,4 @@ timeShapes (f ∷ fs) = followed (f .shape ∷ []) (followed (endings (f .third)
 
 -- the 266 tags: a calendar or a time alone, or "Joined by T, the calendar must reach its day and the time must begin at hh"
 unfoldable pub tagShapes : Shapes
-tagShapes = shapesOf (days ++ months) ++ (timeShapes (hours ++ minutes) ++ followed (shapesOf days) (followed (mark ∷ []) (timeShapes hours)))
+tagShapes = shapesOf (days ++ months) ++ (timeShapes (hours ++ minutes) ++ followed (shapesOf days) (followed (markT ∷ []) (timeShapes hours)))

@@ -10,7 +10,7 @@ use Rattle.base.specs.Outcome.{Outcome, done, refused}
 use Rattle.shape.specs.Shapes.{fits}
 use Rattle.seek.specs.declared.Tag.{Tag}
 use Rattle.tag.specs.Forms.{Place, free, lowest, at, Form, form, Forms, days, months, hours, minutes}
-use Rattle.tag.specs.Tags.{Timed, timed}
+use Rattle.tag.specs.Tags.{Daytime, daytime}
 use Rattle.tag.specs.declared.Part.{Part}
 use Rattle.tag.specs.declared.Part.the-variants as P
 use Rattle.tag.specs.declared.Time.{Time}
@@ -61,8 +61,8 @@ abbrev pub saysPart : Part → Outcome ℕ
 saysPart (P.Good n) = done n
 saysPart P.Bad = refused 4
 
-abbrev pub saysTime : Time → Outcome Timed
-saysTime (T.Good k n) = done (timed k n)
+abbrev pub saysTime : Time → Outcome Daytime
+saysTime (T.Good k n) = done (daytime k n)
 saysTime T.Bad = refused 4
 
 abbrev pub saysParsed : Parsed → Outcome Tag

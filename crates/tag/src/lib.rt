@@ -28,7 +28,7 @@ ghost use Rattle.tag.specs.Tags.{
   orElse,
   goodDay,
   goodClock,
-  tagOf,
+  wantOf,
   saysTag,
 };
 ghost use Rattle.tag.specs.Inner.{
@@ -98,7 +98,7 @@ const PLACES: [[u8; 4]; 15] = [
 
 // Reads a tag, which is the whole slice.
 pub fn read(s: &[u8]) -> TagAnswer
-    ensures { λ r. ⌜ saysTag r ≡ tagOf (now (s .entry)) ⌝ }
+    ensures { λ r. ⌜ saysTag r ≡ wantOf (now (s .entry)) ⌝ }
 {
     if s.len() < 1 {
         return TagAnswer::Refused(Refusal::Short);

@@ -7,7 +7,7 @@ use borrow.Author.Needs.{needs}
 use Rattle.base.specs.Outcome.{done, refused}
 use Rattle.seek.specs.declared.Calendar.{Calendar}
 use Rattle.tag.specs.Forms.{days, months, hours, minutes, find}
-use Rattle.tag.specs.Tags.{Timed, timed, timeIn, tag, midnight}
+use Rattle.tag.specs.Tags.{Daytime, daytime, timeIn, tag, midnight}
 use Rattle.tag.specs.Inner.{formAt, foundAt, saysTime}
 use Rattle.tag.proofs.Rows.{rows-of-calendars, rows-of-times, found-form, found-row, found-none}
 use Rattle.tag.proofs.Ladder.{alone-day, alone-bad, alone-time}
@@ -59,7 +59,7 @@ returns-3 : tie.Need-returns-3
 returns-3 c =
     let a = c .before in
     let t = a .before .before in
-    let k : Timed = timed (a .answer .given .0 .0) (a .answer .given .0 .1 .0) in
+    let k : Daytime = daytime (a .answer .given .0 .0) (a .answer .given .0 .1 .0) in
     alone-time (text (t .before .before)) (none (t .before)) k (sym (time t) ∙ ap saysTime (a .answer .given .1))
 
 pub alone-spec : {M : Type 1} → statement M
