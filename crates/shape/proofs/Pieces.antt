@@ -1,17 +1,17 @@
 -- Texts put together of separators and numbers: their shapes, and how a text is told by its shape and its numbers.
 use mathlib.Core.Path.{_≡_, refl, sym, ap, ap₂, _∙_}
 use mathlib.Core.Bool.{Bool, true, false, not, _&&_}
-use mathlib.Core.List.{List, [], _∷_, _++_}
-use Prim.Native.Nat.{ℕ, _+_, _≤_}
+use mathlib.Core.List.{List, [], _∷_, _++_, append-assoc}
+use Prim.Native.Nat.{ℕ, _+_, _^_, _≤_, _<_}
 use native.Mathlib.Nat.{add-zero}
 use native.Mathlib.Omega.{arith}
 use lib.Dec.{eqb}
-use lib.ListN.{length, getD, take, drop, length-drop, take-append-drop, drop-of-length-le}
-use lib.Seq.{drop-drop, getD-drop}
+use lib.ListN.{length, getD, take, drop, length-append, length-drop, take-append-drop, drop-of-length-le}
+use lib.Seq.{drop-at, drop-drop, getD-drop}
 use borrow.Author.Tests.{not-true}
 use Rattle.base.proofs.Bools.{and-true}
-use Rattle.octets.specs.Places.{allGood, digitGood, digits, decimalOf}
-use Rattle.octets.proofs.Places.{digit-rule, places-number}
+use Rattle.octets.specs.Places.{allGood, digitValue, digitOf, digitGood, digits, decimalOf}
+use Rattle.octets.proofs.Places.{digit-rule, length-places, number-append, number-places, places-number}
 use Rattle.shape.specs.Shapes.{kindOf, shapeOf}
 use Rattle.shape.proofs.Shapes.{zeros, kind-other, shape-append, shape-shape, shape-digits, run-in, run-out, mark-in, mark-out}
 
@@ -66,6 +66,28 @@ spell-shape (sep c ∷ ps) e =
 spell-shape (num w n ∷ ps) e =
     shape-append (digits w n) (spell ps) ∙ ap₂ (λ (a b : List ℕ). a ++ b) (shape-digits w n) (spell-shape ps e)
 
+-- the numbers of what was spelled are those that it was spelled from
+abbrev pub Small : List Piece → Type 0
+Small [] = Unit {0}
+Small (sep c ∷ ps) = Small ps
+Small (num w n ∷ ps) = (n < 10 ^ w) × Small ps
+
+agree-behind : (p : List ℕ) (ps : List Piece) → Small ps → Agree (length p) (p ++ spell ps) ps
+agree-behind p [] h = tt
+agree-behind p (sep c ∷ ps) h =
+    rw (append-assoc p (c ∷ []) (spell ps), length-append p (c ∷ [])) at (agree-behind (p ++ (c ∷ [])) ps h)
+agree-behind p (num w n ∷ ps) (l, h) =
+    let d : length (digits w n) ≡ w = length-places 10 digitOf w n in (
+      ap (λ (t : List ℕ). decimalOf t w) (drop-at p (digits w n ++ spell ps) (length p) refl)
+      ∙ number-append 10 digitValue (digits w n) (spell ps) w (omega arith)
+      ∙ number-places digit-rule w n l,
+      rw (append-assoc p (digits w n) (spell ps), length-append p (digits w n), d) at (agree-behind (p ++ digits w n) ps h),
+    )
+
+pub agree-spelled : (ps : List Piece) → Small ps → Agree 0 (spell ps) ps
+agree-spelled ps h = agree-behind [] ps h
+
+-- a text is told by its shape and its numbers
 pub spelled : (ps : List Piece) (s : List ℕ) (i : ℕ) → clean ps ≡ true → shapeOf (drop i s) ≡ outline ps → Agree i s ps → drop i s ≡ spell ps
 unfolding shapeOf
 spelled [] s i e f a = none (drop i s) f
