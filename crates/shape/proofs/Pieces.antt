@@ -1,6 +1,6 @@
 -- Texts put together of separators and numbers: their shapes, and how a text is told by its shape and its numbers.
 use mathlib.Core.Path.{_≡_, refl, sym, ap, ap₂, _∙_}
-use mathlib.Core.Bool.{Bool, true, false, not, _&&_}
+use mathlib.Core.Bool.{Bool, true, not, _&&_}
 use mathlib.Core.List.{List, [], _∷_, _++_, append-assoc}
 use Prim.Native.Nat.{ℕ, _+_, _^_, _≤_, _<_}
 use native.Mathlib.Nat.{add-zero}
@@ -8,11 +8,12 @@ use native.Mathlib.Omega.{arith}
 use lib.Dec.{eqb}
 use lib.ListN.{length, getD, take, drop, length-append, length-drop, take-append-drop, drop-of-length-le}
 use lib.Seq.{drop-at, drop-drop, getD-drop}
-use borrow.Author.Tests.{not-true}
-use Rattle.base.proofs.Bools.{and-true}
+use borrow.Author.Tests.{eqb-true, eq-eqb, not-true}
+use Rattle.base.proofs.Bools.{never-both, and-true, by-two}
 use Rattle.octets.specs.Places.{allGood, digitValue, digitOf, digitGood, digits, decimalOf}
 use Rattle.octets.proofs.Places.{digit-rule, length-places, number-append, number-places, places-number}
-use Rattle.shape.specs.Shapes.{kindOf, shapeOf}
+use Rattle.shape.specs.Shapes.{shapeOf, same}
+use Rattle.shape.proofs.Tests.{fails, yes-both, same-is, is-same}
 use Rattle.shape.proofs.Shapes.{zeros, kind-other, shape-append, shape-shape, shape-digits, run-in, run-out, mark-in, mark-out}
 
 -- a separator, or a number in w digits
@@ -79,8 +80,8 @@ agree-behind p (sep c ∷ ps) h =
 agree-behind p (num w n ∷ ps) (l, h) =
     let d : length (digits w n) ≡ w = length-places 10 digitOf w n in (
       ap (λ (t : List ℕ). decimalOf t w) (drop-at p (digits w n ++ spell ps) (length p) refl)
-      ∙ number-append 10 digitValue (digits w n) (spell ps) w (omega arith)
-      ∙ number-places digit-rule w n l,
+          ∙ number-append 10 digitValue (digits w n) (spell ps) w (omega arith)
+          ∙ number-places digit-rule w n l,
       rw (append-assoc p (digits w n) (spell ps), length-append p (digits w n), d) at (agree-behind (p ++ digits w n) ps h),
     )
 
@@ -120,3 +121,28 @@ stands (num w n ∷ ps) s i e l (g, t) =
 -- its outline is of the same shape
 pub outlined : (ps : List Piece) → clean ps ≡ true → shapeOf (spell ps) ≡ shapeOf (outline ps)
 outlined ps e = sym (shape-shape (spell ps)) ∙ ap shapeOf (spell-shape ps e)
+
+-- the same agreement as a test
+abbrev pub agree : ℕ → List ℕ → List Piece → Bool
+agree i s [] = true
+agree i s (sep c ∷ ps) = agree (i + 1) s ps
+agree i s (num w n ∷ ps) = eqb (decimalOf (drop i s) w) n && agree (i + w) s ps
+
+pub agree-is : (i : ℕ) (s : List ℕ) (ps : List Piece) → agree i s ps ≡ true → Agree i s ps
+agree-is i s [] e = tt
+agree-is i s (sep c ∷ ps) e = agree-is (i + 1) s ps e
+agree-is i s (num w n ∷ ps) e =
+    let (a, b) = and-true (eqb (decimalOf (drop i s) w) n) (agree (i + w) s ps) e in
+    (eqb-true (decimalOf (drop i s) w) n a, agree-is (i + w) s ps b)
+
+pub is-agree : (i : ℕ) (s : List ℕ) (ps : List Piece) → Agree i s ps → agree i s ps ≡ true
+is-agree i s [] h = refl
+is-agree i s (sep c ∷ ps) h = is-agree (i + 1) s ps h
+is-agree i s (num w n ∷ ps) (e, h) = yes-both (eq-eqb (decimalOf (drop i s) w) n e) (is-agree (i + w) s ps h)
+
+-- a number in w digits is another exactly if the texts are the same
+pub same-digits : (w n m : ℕ) → n < 10 ^ w → m < 10 ^ w → same (digits w n) (digits w m) ≡ eqb m n
+same-digits w n m h k =
+    by-two (same (digits w n) (digits w m)) (eqb m n)
+    (λ e. eq-eqb m n (sym (number-places digit-rule w m k) ∙ ap (λ (t : List ℕ). decimalOf t w) (sym (same-is (digits w n) (digits w m) e)) ∙ number-places digit-rule w n h))
+    (λ e. fails (eqb m n) (λ f. never-both (is-same (digits w n) (digits w m) (ap (digits w) (sym (eqb-true m n f)))) e))

@@ -23,8 +23,8 @@ use Rattle.tag.specs.Tags.{until, calendarAs, timeIn, Daytime, tag, midn
 use Rattle.tag.specs.Shortening.{cut, lowFrom, Run, Shortening, calendar, time, both}
 use Rattle.tag.proofs.Scans.{until-cut}
 use Rattle.tag.proofs.Subfields.{dated, clocked, calendar-of, clock-of, zone-of}
-use Rattle.tag.proofs.DatesBack.{is-may, low-is, DayBack, whole-back, day-back}
-use Rattle.tag.proofs.TimesBack.{TimeBack, behind-back, alone-back}
+use Rattle.tag.proofs.Dates.{DayBack, whole-back, day-back}
+use Rattle.tag.proofs.TimesBack.{is-may, low-is, TimeBack, behind-back, alone-back}
 
 -- the full code of a day, a second of it and a tick count that a text is a shortening of
 pub record Completed (n x k : ℕ) (s : List ℕ) : Type 0 where
@@ -82,7 +82,7 @@ at-midnight x e =
     rw (low-is 2 (minuteOf x / 60) 0 (bytes "00") (sym (is-may _ _ a)) refl, low-is 2 (minuteOf x % 60) 0 (bytes "00") (sym (is-may _ _ b)) refl, low-is 2 (x - minuteOf x * 60) 0 (bytes "00") (sym (is-may _ _ c)) refl)
 
 module _ (n x : ℕ) (s : List ℕ) where
-  day-code : DayBack n s false → lowFrom 0 (clocked x []) ≡ true → Completed n x 0 s
+  day-code : {w : Bool} → DayBack n s w → lowFrom 0 (clocked x []) ≡ true → Completed n x 0 s
   day-code b z =
       let l = lay (b .ordinal) 0 false in
       let e = calendar-of l n x 0 (omega arith) in
@@ -139,9 +139,9 @@ both-code n x k s c r i d b =
     }
 
 -- each day and second that have what a tag wants
-pub completed : (s : List ℕ) (t : Tag) (n x : ℕ) → Parts s t → dayFits (t .calendar) n ≡ true → clockFits (t .clock) x ≡ true → Completed n x (t .ticks) s
-completed s t n x (day f e i) p q =
-    rw (← i) (day-code n x s (day-back n s f e (rw (← i) at p)) (at-midnight x (rw (← i) at q)))
-completed s t n x (clock k e i) p q = rw (← i) (time-code n x s (k .ticks) (alone-back x s k e (rw (← i) at q)))
-completed s t n x (joint c r f k j e g i) p q =
-    rw (← i) (both-code n x (k .ticks) s c r j (whole-back n c f e (rw (← i) at p)) (behind-back x r k g (rw (← i) at q)))
+pub completed : (s : List ℕ) (t : Tag) (n x : ℕ) → n ≤ 3652058 → Parts s t → dayFits (t .calendar) n ≡ true → clockFits (t .clock) x ≡ true → Completed n x (t .ticks) s
+completed s t n x h (day f e i) p q =
+    rw (← i) (day-code n x s (day-back n h s f e (rw (← i) at p) .1) (at-midnight x (rw (← i) at q)))
+completed s t n x h (clock k e i) p q = rw (← i) (time-code n x s (k .ticks) (alone-back x s k e (rw (← i) at q)))
+completed s t n x h (joint c r f k j e g i) p q =
+    rw (← i) (both-code n x (k .ticks) s c r j (whole-back n h c f e (rw (← i) at p)) (behind-back x r k g (rw (← i) at q)))

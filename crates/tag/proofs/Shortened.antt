@@ -23,7 +23,7 @@ use Rattle.tag.specs.Shortening.{Shortening, calendar, time, both}
 use Rattle.tag.proofs.Scans.{until-past}
 use Rattle.tag.proofs.Ladder.{joined-done, alone-day, alone-time, formed-joined, formed-alone, tag-done}
 use Rattle.tag.proofs.Subfields.{dated, calendar-of, clock-of, zone-of}
-use Rattle.tag.proofs.DatesForth.{Dated, date-forth}
+use Rattle.tag.proofs.Dates.{Dated, date-forth}
 use Rattle.tag.proofs.TimesForth.{Timing, Ticking, time-forth, low-hour}
 
 -- ---- a text that is a tag

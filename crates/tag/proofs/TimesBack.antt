@@ -20,8 +20,9 @@ use Rattle.clock.specs.Clock.{minuteOf}
 use Rattle.ascii.specs.Ascii.{ticksOf, zoneText}
 use Rattle.ascii.proofs.Texts.{digits-length}
 use Rattle.seek.specs.declared.Clock.{Clock}
-use Rattle.seek.specs.Naming.{clockFits}
-use Rattle.shape.specs.Shapes.{shapeOf}
+use Rattle.seek.specs.declared.Want.the-variants.{Is}
+use Rattle.seek.specs.Naming.{may, clockFits}
+use Rattle.shape.specs.Shapes.{shapeOf, same}
 use Rattle.tag.specs.Forms.{Place, Form, Forms, form, free, lowest, at, hours, minutes, find}
 use Rattle.tag.specs.Tags.{until, isFree, isLowest, clockAs, fractionAs, Daytime, daytime, unzoned, timeIn}
 use Rattle.tag.specs.Shortening.{digitsBy, cut, lowFrom, Run}
@@ -29,7 +30,6 @@ use Rattle.tag.proofs.Scans.{until-le, until-cut, find-each}
 use Rattle.shape.proofs.Pieces.{Piece, sep, num, spell, outline, clean, Agree, spelled}
 use Rattle.tag.proofs.Subfields.{clocked}
 use Rattle.tag.proofs.Fractions.{digits-count, first-digits}
-use Rattle.tag.proofs.DatesBack.{is-may, low-is}
 
 -- ---- a time, taken apart
 record Zoned (s : List ℕ) : Type 0 where
@@ -144,6 +144,14 @@ part-back p k (part ds) e =
 low-end : (b ds : List ℕ) → lowFrom (length ds) (digitsBy b ds) ≡ true
 low-end b [] = refl
 low-end b (d ∷ ds) = low-end [] ds
+
+-- ---- fields
+pub is-may : (a b : ℕ) → may (Is a) b ≡ true → a ≡ b
+is-may a b e = eqb-true a b e
+
+-- a field at its lowest value
+pub low-is : (w k v : ℕ) (s : List ℕ) → k ≡ v → same (digits w v) s ≡ true → same (digits w k) s ≡ true
+low-is w k v s e f = ap (λ (i : ℕ). same (digits w i) s) e ∙ f
 
 -- ---- times
 pub record TimeBack (hour : Bool) (x k : ℕ) (s : List ℕ) : Type 0 where

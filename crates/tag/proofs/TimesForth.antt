@@ -1,26 +1,27 @@
 -- The time of a full code, shortened: what remains wants what the code has.
 use mathlib.Core.Path.{_≡_, refl, sym, ap, _∙_}
-use mathlib.Core.Bool.{Bool, true, false, _&&_, _||_, false≢true}
+use mathlib.Core.Bool.{Bool, true, false, _&&_, false≢true}
 use mathlib.Core.List.{List, [], _∷_, _++_}
 use Prim.Native.Nat.{ℕ, zero, suc, _+_, _-_, _*_, _/_, _%_, _^_, _≤_, _<_}
 use native.Mathlib.Omega.{arith}
-use lib.Dec.{eqb, ltb}
+use lib.Dec.{eqb}
 use lib.ListN.{length, getD, take, length-append}
 use lib.Seq.{length-take-le}
-use borrow.Author.Tests.{le-leb}
+use borrow.Author.Tests.{eq-eqb, le-leb}
 use Rattle.base.specs.Outcome.{done, refused, given}
 use Rattle.base.proofs.Bools.{and-true}
-use Rattle.base.proofs.Ladders.{need-done}
 use Rattle.octets.specs.Places.{digitGood, digitValue, digits, decimalOf, allGood}
-use Rattle.octets.proofs.Places.{digit-rule, number-take, places-good, all-good, good-at}
-use Rattle.clock.proofs.Laws.{Shown, shown, shown-back}
+use Rattle.octets.proofs.Places.{digit-rule, number-places, number-take, places-good, all-good, good-at}
+use Rattle.clock.proofs.Laws.{Shown, shown}
 use Rattle.shape.specs.Quoted.{bytes}
-use Rattle.clock.specs.Clock.{clockOk, minuteOf}
+use Rattle.clock.specs.Clock.{minuteOf}
 use Rattle.ascii.specs.Ascii.{ticksOf, zoneText}
 use Rattle.ascii.proofs.Texts.{digits-length}
 use Rattle.seek.specs.declared.Clock.{Clock}
-use Rattle.seek.specs.Naming.{clockFits}
-use Rattle.shape.specs.Shapes.{shapeOf}
+use Rattle.seek.specs.declared.Want.the-variants.{Is}
+use Rattle.seek.specs.Naming.{may, clockFits}
+use Rattle.shape.specs.Shapes.{shapeOf, same}
+use Rattle.shape.proofs.Tests.{same-is}
 use Rattle.tag.specs.Forms.{Place, Form, Forms, form, free, lowest, at, days, months, hours, minutes, find}
 use Rattle.tag.specs.Tags.{until, isFree, isLowest, clockAs, fractionAs, daytime, timeIn, goodClock}
 use Rattle.tag.specs.Shortening.{Subfield, digitsBy, cut, lowFrom, Run}
@@ -30,7 +31,7 @@ use Rattle.shape.proofs.Pieces.{Piece, sep, num, spell, outline, clean, spell-s
 use Rattle.tag.proofs.Subfields.{clocked}
 use Rattle.tag.proofs.Fractions.{digits-count, first-digits, ticks-kept}
 use Rattle.tag.proofs.Heads.{Tail, none, part, tail-plain, time-told}
-use Rattle.tag.proofs.DatesForth.{may-is, written, low-is}
+use Rattle.tag.proofs.Goods.{good-clock}
 
 -- ---- the fraction that remains
 none-told : (d f : ℕ) (p : Place) → d ≤ 12 → f < 10 ^ d → isFree p ≡ false → lowFrom 0 (digitsBy (bytes ".") (digits d f)) ≡ true → fractionAs p [] ≡ done (ticksOf d f)
@@ -77,28 +78,28 @@ zone-plain : (z : Bool) → until 84 (zoneText z) ≡ length (zoneText z)
 zone-plain true = refl
 zone-plain false = refl
 
-module _ (x k : ℕ) (ps : List Piece) (f : Form) {tail : List ℕ} (t : Tail tail) (z : Bool) (e : clean ps ≡ true) where
+module _ (x k : ℕ) (hx : x ≤ 86400) (ps : List Piece) (f : Form) {tail : List ℕ} (t : Tail tail) (z : Bool) (e : clean ps ≡ true) where
   keeps : (c : ℕ) → digitGood c ≡ false → until c (outline ps) ≡ length (spell ps) → until c (spell ps) ≡ length (spell ps)
   keeps c n u = sym (until-shape c n (spell ps)) ∙ ap (until c) (spell-shape ps e) ∙ u
 
-  timing : (fs : Forms) → until 90 (outline ps) ≡ length (spell ps) → until 46 (outline ps) ≡ length (spell ps) → find fs (outline ps) ≡ done f → fractionAs (f .third) tail ≡ done k → clockFits (clockAs (spell ps) f) x ≡ true → goodClock (clockAs (spell ps) f) ≡ true
+  timing : (fs : Forms) → until 90 (outline ps) ≡ length (spell ps) → until 46 (outline ps) ≡ length (spell ps) → find fs (outline ps) ≡ done f → fractionAs (f .third) tail ≡ done k → clockFits (clockAs (spell ps) f) x ≡ true
       → Timing fs x k (spell ps ++ (tail ++ zoneText z))
-  timing fs u v g h i j =
+  timing fs u v g h i =
       record {
         clock = clockAs (spell ps) f;
         told =
             time-told fs f (spell ps) tail z t (keeps 90 refl u) (keeps 46 refl v) (find-spelled fs ps e ∙ g)
             ∙ ap (given (daytime (clockAs (spell ps) f))) h;
         fits = i;
-        good = j;
+        good = good-clock (clockAs (spell ps) f) x hx i;
       }
 
   ticking : (b : Bool) → until 84 (outline ps) ≡ length (spell ps) → until 90 (outline ps) ≡ length (spell ps) → until 46 (outline ps) ≡ length (spell ps) → find (hours ++ minutes) (outline ps) ≡ done f → (b ≡ true → find hours (outline ps) ≡ done f)
-      → find (days ++ months) (outline ps ++ (tail ++ zoneText z)) ≡ refused 4 → fractionAs (f .third) tail ≡ done k → clockFits (clockAs (spell ps) f) x ≡ true → goodClock (clockAs (spell ps) f) ≡ true → Ticking b x k (spell ps ++ (tail ++ zoneText z))
-  ticking b w u v g r o h i j =
+      → find (days ++ months) (outline ps ++ (tail ++ zoneText z)) ≡ refused 4 → fractionAs (f .third) tail ≡ done k → clockFits (clockAs (spell ps) f) x ≡ true → Ticking b x k (spell ps ++ (tail ++ zoneText z))
+  ticking b w u v g r o h i =
       record {
-        alone = timing (hours ++ minutes) u v g h i j;
-        behind = λ y. timing hours u v (r y) h i j;
+        alone = timing (hours ++ minutes) u v g h i;
+        behind = λ y. timing hours u v (r y) h i;
         plain =
             until-past 84 (spell ps) (tail ++ zoneText z) (keeps 84 refl w)
             ∙ ap (λ (n : ℕ). length (spell ps) + n) (until-past 84 tail (zoneText z) (tail-plain 84 refl refl refl t) ∙ ap (λ (n : ℕ). length tail + n) (zone-plain z) ∙ sym (length-append tail (zoneText z)))
@@ -112,27 +113,15 @@ unfolding days months shapeOf
 no-day true = refl
 no-day false = refl
 
--- ---- clocks with fields left free
-ok-hour : (h m s : ℕ) → clockOk h m s ≡ true → clockOk 23 m s ≡ true
-ok-hour h m s e = go (ltb h 24) (ltb m 60) (ltb s 60) (eqb s 60) (eqb h 23) (eqb m 59) e
-  where
-    go : (a b c d e f : Bool) → a && (b && (c || (d && (e && f)))) ≡ true → b && (c || (d && f)) ≡ true
-    go true true true d e f h = refl
-    go true true false true true true h = refl
-    go true true false true true false h = h
-    go true true false true false f h = absurd (false≢true h)
-    go true true false false e f h = h
-    go true false c d e f h = h
-    go false b c d e f h = absurd (false≢true h)
+-- ---- fields
+may-is : (a b : ℕ) → a ≡ b → may (Is a) b ≡ true
+may-is a b e = eq-eqb a b e
 
-ok-minute : (m s : ℕ) → clockOk 23 m s ≡ true → clockOk 23 59 s ≡ true
-ok-minute m s e = go (ltb m 60) (ltb s 60) (eqb s 60) (eqb m 59) e
-  where
-    go : (b c d f : Bool) → b && (c || (d && f)) ≡ true → c || (d && true) ≡ true
-    go true true d f h = refl
-    go true false true f h = refl
-    go true false false f h = h
-    go false c d f h = absurd (false≢true h)
+written : (w n : ℕ) → n < 10 ^ w → decimalOf (digits w n) w ≡ n
+written w n h = number-places digit-rule w n h
+
+low-is : (w n m : ℕ) (s : List ℕ) → n < 10 ^ w → decimalOf s w ≡ m → same (digits w n) s ≡ true → n ≡ m
+low-is w n m s h e f = sym (written w n h) ∙ ap (λ (t : List ℕ). decimalOf t w) (same-is (digits w n) s f) ∙ e
 
 module _ (x d f : ℕ) (hx : x ≤ 86400) (hd : d ≤ 12) (hf : f < 10 ^ d) (z : Bool) where
   abbrev h : ℕ
@@ -153,9 +142,6 @@ module _ (x d f : ℕ) (hx : x ≤ 86400) (hd : d ≤ 12) (hf : f < 10 ^ d) (z :
   shows-it : Shown x (minuteOf x)
   shows-it = shown x hx
 
-  ok : clockOk h m s ≡ true
-  ok = need-done (clockOk h m s) 4 _ x (shown-back x hx) .0
-
   h-is : decimalOf (digits 2 h) 2 ≡ h
   h-is = written 2 h (omega (arith, shows-it .hour))
 
@@ -170,22 +156,22 @@ module _ (x d f : ℕ) (hx : x ≤ 86400) (hd : d ≤ 12) (hf : f < 10 ^ d) (z :
 
   -- ---- without a fraction
   hour-only : m ≡ 0 → s ≡ 0 → lowFrom 0 fraction ≡ true → Ticking true x (ticksOf d f) (remaining 0 1)
-  unfolding shapeOf hours minutes clockFits clockAs goodClock
+  unfolding shapeOf hours minutes clockFits clockAs
   hour-only p q low =
-      ticking x (ticksOf d f) (num 2 h ∷ []) (form (bytes "00") (at 0) lowest lowest free) none z refl true refl refl refl refl (λ t. refl) (no-day z)
-      (none-told d f lowest hd hf refl low) (all-three (may-is _ _ h-is) (may-is _ _ (sym p)) (may-is _ _ (sym q))) (rw h-is (rw (p, q) at ok))
+      ticking x (ticksOf d f) hx (num 2 h ∷ []) (form (bytes "00") (at 0) lowest lowest free) none z refl true refl refl refl refl (λ t. refl) (no-day z)
+      (none-told d f lowest hd hf refl low) (all-three (may-is _ _ h-is) (may-is _ _ (sym p)) (may-is _ _ (sym q)))
 
   to-minute : s ≡ 0 → lowFrom 0 fraction ≡ true → Ticking true x (ticksOf d f) (remaining 0 2)
-  unfolding shapeOf hours minutes days months clockFits clockAs goodClock
+  unfolding shapeOf hours minutes days months clockFits clockAs
   to-minute q low =
-      ticking x (ticksOf d f) (num 2 h ∷ sep 58 ∷ num 2 m ∷ []) (form (bytes "00:00") (at 0) (at 3) lowest free) none z refl true refl refl refl refl (λ t. refl) refl
-      (none-told d f lowest hd hf refl low) (all-three (may-is _ _ h-is) (may-is _ _ m-is) (may-is _ _ (sym q))) (rw (h-is, m-is) (rw q at ok))
+      ticking x (ticksOf d f) hx (num 2 h ∷ sep 58 ∷ num 2 m ∷ []) (form (bytes "00:00") (at 0) (at 3) lowest free) none z refl true refl refl refl refl (λ t. refl) refl
+      (none-told d f lowest hd hf refl low) (all-three (may-is _ _ h-is) (may-is _ _ m-is) (may-is _ _ (sym q)))
 
   minute-only : s ≡ 0 → lowFrom 0 fraction ≡ true → Ticking false x (ticksOf d f) (remaining 1 2)
-  unfolding shapeOf hours minutes days months clockFits clockAs goodClock
+  unfolding shapeOf hours minutes days months clockFits clockAs
   minute-only q low =
-      ticking x (ticksOf d f) (sep 58 ∷ num 2 m ∷ []) (form (bytes ":00") free (at 1) lowest free) none z refl false refl refl refl refl (λ t. absurd (false≢true t)) refl
-      (none-told d f lowest hd hf refl low) (all-three refl (may-is _ _ m-is) (may-is _ _ (sym q))) (rw m-is (rw q at (ok-hour h m s ok)))
+      ticking x (ticksOf d f) hx (sep 58 ∷ num 2 m ∷ []) (form (bytes ":00") free (at 1) lowest free) none z refl false refl refl refl refl (λ t. absurd (false≢true t)) refl
+      (none-told d f lowest hd hf refl low) (all-three refl (may-is _ _ m-is) (may-is _ _ (sym q)))
 
   -- ---- with the second, and j digits behind it
   ending : (j : ℕ) → j ≤ d → lowFrom j fraction ≡ true → Tail (cut 0 j fraction) × ((i : ℕ) → fractionAs (at i) (cut 0 j fraction) ≡ done (ticksOf d f))
@@ -196,32 +182,32 @@ module _ (x d f : ℕ) (hx : x ≤ 86400) (hd : d ≤ 12) (hf : f < 10 ^ d) (z :
 
   module _ (j : ℕ) (k : j ≤ d) (low : lowFrom j fraction ≡ true) where
     full-time : Ticking true x (ticksOf d f) (remaining 0 (suc (suc (suc j))))
-    unfolding shapeOf hours minutes days months clockFits clockAs goodClock
+    unfolding shapeOf hours minutes days months clockFits clockAs
     full-time =
         let (t, e) = ending j k low in
-        ticking x (ticksOf d f) (num 2 h ∷ sep 58 ∷ num 2 m ∷ sep 58 ∷ num 2 s ∷ []) (form (bytes "00:00:00") (at 0) (at 3) (at 6) free) t z refl true refl refl refl refl (λ t. refl) refl
-        (e 6) (all-three (may-is _ _ h-is) (may-is _ _ m-is) (may-is _ _ s-is)) (rw (h-is, m-is, s-is) ok)
+        ticking x (ticksOf d f) hx (num 2 h ∷ sep 58 ∷ num 2 m ∷ sep 58 ∷ num 2 s ∷ []) (form (bytes "00:00:00") (at 0) (at 3) (at 6) free) t z refl true refl refl refl refl (λ t. refl) refl
+        (e 6) (all-three (may-is _ _ h-is) (may-is _ _ m-is) (may-is _ _ s-is))
 
     from-minute : Ticking false x (ticksOf d f) (remaining 1 (suc (suc (suc j))))
-    unfolding shapeOf hours minutes days months clockFits clockAs goodClock
+    unfolding shapeOf hours minutes days months clockFits clockAs
     from-minute =
         let (t, e) = ending j k low in
-        ticking x (ticksOf d f) (sep 58 ∷ num 2 m ∷ sep 58 ∷ num 2 s ∷ []) (form (bytes ":00:00") free (at 1) (at 4) free) t z refl false refl refl refl refl (λ t. absurd (false≢true t)) refl
-        (e 4) (all-three refl (may-is _ _ m-is) (may-is _ _ s-is)) (rw (m-is, s-is) (ok-hour h m s ok))
+        ticking x (ticksOf d f) hx (sep 58 ∷ num 2 m ∷ sep 58 ∷ num 2 s ∷ []) (form (bytes ":00:00") free (at 1) (at 4) free) t z refl false refl refl refl refl (λ t. absurd (false≢true t)) refl
+        (e 4) (all-three refl (may-is _ _ m-is) (may-is _ _ s-is))
 
     from-second : Ticking false x (ticksOf d f) (remaining 2 (suc (suc (suc j))))
-    unfolding shapeOf hours minutes days months clockFits clockAs goodClock
+    unfolding shapeOf hours minutes days months clockFits clockAs
     from-second =
         let (t, e) = ending j k low in
-        ticking x (ticksOf d f) (sep 58 ∷ sep 58 ∷ num 2 s ∷ []) (form (bytes "::00") free free (at 2) free) t z refl false refl refl refl refl (λ t. absurd (false≢true t)) refl
-        (e 2) (all-three refl refl (may-is _ _ s-is)) (rw s-is (ok-minute m s (ok-hour h m s ok)))
+        ticking x (ticksOf d f) hx (sep 58 ∷ sep 58 ∷ num 2 s ∷ []) (form (bytes "::00") free free (at 2) free) t z refl false refl refl refl refl (λ t. absurd (false≢true t)) refl
+        (e 2) (all-three refl refl (may-is _ _ s-is))
 
   from-fraction : (j : ℕ) → suc j ≤ d → lowFrom (suc j) fraction ≡ true → Ticking false x (ticksOf d f) (remaining 3 (suc (suc (suc (suc j)))))
-  unfolding shapeOf hours minutes days months clockFits clockAs goodClock
+  unfolding shapeOf hours minutes days months clockFits clockAs
   from-fraction j k low =
       rw (first-digits j (digits d f) (omega (arith, digits-length d f)))
-      (ticking x (ticksOf d f) (sep 58 ∷ sep 58 ∷ []) (form (bytes "::") free free free free) (part (take (suc j) (digits d f)) (part-good d (suc j) f k)) z refl false refl refl refl refl (λ t. absurd (false≢true t)) refl
-      (part-told d j f free hd k hf refl low) refl refl)
+      (ticking x (ticksOf d f) hx (sep 58 ∷ sep 58 ∷ []) (form (bytes "::") free free free free) (part (take (suc j) (digits d f)) (part-good d (suc j) f k)) z refl false refl refl refl refl (λ t. absurd (false≢true t)) refl
+      (part-told d j f free hd k hf refl low) refl)
 
   low-second : lowFrom 2 (clocked x (digits d f)) ≡ true → (s ≡ 0) × (lowFrom 0 fraction ≡ true)
   low-second e = let (a, b) = and-true _ _ e in (low-is 2 s 0 (bytes "00") (omega (arith, shows-it .second)) refl a, b)
