@@ -139,6 +139,10 @@ right p =
     let l = layoutOf p in
     same p (shapeBy l) && (isLayout l && (eqb (length p) (frontOf (l .ordinal) + partSize (l .digits) + bit (l .zone)) && (separators l p && figures l p)))
 
+count : length codeShapes ≡ 52
+unfolding codeShapes
+count = refl
+
 all-right : passes right codeShapes ≡ true
 unfolding codeShapes layoutOf separators figures dateFigures clockFigures
 all-right = refl

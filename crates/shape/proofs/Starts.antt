@@ -13,7 +13,7 @@ use lib.Seq.{take-length}
 use Rattle.base.proofs.Bools.{never-both, and-true}
 use Rattle.shape.specs.Quoted.{bytes}
 use Rattle.shape.specs.Shapes.{kindOf, shapeOf, Shapes, same, fits, shaped, leads, begins, alongTo, along}
-use Rattle.shape.proofs.Tests.{or-left, or-right, yes-both, same-is}
+use Rattle.shape.proofs.Tests.{or-left, or-right, yes-both}
 
 -- ---- by computation
 abbrev two : Shapes

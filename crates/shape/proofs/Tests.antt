@@ -8,7 +8,7 @@ use native.Mathlib.Omega.{arith}
 use borrow.Author.Tests.{eqb-true, eq-eqb, ltb-true, ltb-false}
 use lib.Dec.{eqb, ltb}
 use lib.ListN.{length}
-use Rattle.base.proofs.Bools.{never-both, and-true, and-yes}
+use Rattle.base.proofs.Bools.{and-true, and-yes}
 use Rattle.shape.specs.Shapes.{Shapes, same}
 
 abbrev pub passes : (List ℕ → Bool) → Shapes → Bool

@@ -18,7 +18,7 @@ use Rattle.calendar.proofs.Promises.{date-at-done, date-fields}
 use Rattle.shape.specs.Quoted.{bytes}
 use Rattle.shape.specs.Shapes.{shapeOf, same}
 use Rattle.shape.specs.Parts.{dateA, dateB}
-use Rattle.shape.proofs.Tests.{yes-both, same-is}
+use Rattle.shape.proofs.Tests.{yes-both}
 use Rattle.shape.proofs.Shapes.{shape-length}
 use Rattle.shape.proofs.Pieces.{Piece, sep, num, spell, outline, clean, Small, agree, agree-is, is-agree, agree-spelled, spell-shape, spelled, same-digits}
 use Rattle.ascii.specs.Ascii.{numberAt}
@@ -26,7 +26,7 @@ use Rattle.seek.specs.Naming.{dayFits}
 use Rattle.tag.specs.Forms.{Form, form, free, lowest, at, days, months, find}
 use Rattle.tag.specs.Tags.{until, calendarAs, goodDay}
 use Rattle.tag.specs.Shortening.{cut, lowFrom, Run}
-use Rattle.tag.proofs.Scans.{Each, until-shape, find-spelled, find-has, find-each}
+use Rattle.tag.proofs.Scans.{until-shape, find-spelled, find-each}
 use Rattle.tag.proofs.Subfields.{dated}
 use Rattle.tag.proofs.Goods.{good-day}
 

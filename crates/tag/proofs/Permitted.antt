@@ -1,8 +1,8 @@
 -- A text is formed to a tag exactly when it has one of the tags' shapes.
-use mathlib.Core.Path.{_≡_, refl, sym, ap, ap₂, subst, _∙_}
+use mathlib.Core.Path.{_≡_, refl, sym, ap, _∙_}
 use mathlib.Core.Bool.{Bool, true, false, cond, not, _&&_, _||_, false≢true}
-use mathlib.Core.List.{List, [], _∷_, _++_}
-use Prim.Native.Nat.{ℕ, zero, suc, _+_, _-_, _≤_, _<_}
+use mathlib.Core.List.{List, [], _∷_, _++_, map}
+use Prim.Native.Nat.{ℕ, suc, _+_, _-_, _≤_}
 use native.Mathlib.Omega.{arith}
 use lib.Dec.{leb, ltb}
 use lib.ListN.{length, take, drop}
@@ -11,10 +11,12 @@ use Rattle.base.specs.Outcome.{Outcome, done, refused, need, andThen, given}
 use Rattle.base.proofs.Bools.{and-true, never-both}
 use Rattle.base.proofs.Ladders.{never, done-is, need-done}
 use Rattle.octets.specs.Places.{allGood, digitGood}
-use Rattle.shape.specs.Shapes.{shapeOf, Shapes, same, fits, shaped}
-use Rattle.shape.specs.Parts.{followed, perhaps, fractions, zones, markT}
-use Rattle.shape.proofs.Tests.{passes, downTo, down-at, or-left, or-right, fails}
+use Rattle.shape.specs.Quoted.{bytes}
+use Rattle.shape.specs.Shapes.{shapeOf, fits, shaped, begins, along}
+use Rattle.shape.specs.Parts.{followed, fractions, zones, markT}
+use Rattle.shape.proofs.Tests.{passes, downTo, down-at, or-left}
 use Rattle.shape.proofs.Shapes.{zeros, shape-length, shape-take, shape-drop, shape-shape, digits-in, good-shape, each-shape, shaped-alike, shaped-first, shaped-second, shaped-followed}
+use Rattle.ascii.specs.Shapes.{codeShapes}
 use Rattle.ascii.specs.Ascii.{zoneText}
 use Rattle.seek.specs.declared.Tag.{Tag}
 use Rattle.tag.specs.Forms.{Place, free, lowest, at, Form, Forms, days, months, hours, minutes, find, shapesOf, endings, timeShapes, tagShapes}
@@ -101,6 +103,10 @@ formed-shape s =
     go false = alone-shape s
 
 -- ---- each of the 266 shapes is formed
+count : length tagShapes ≡ 266
+unfolding tagShapes days months hours minutes
+count = refl
+
 all-formed : passes (λ p. isDone (formed p)) tagShapes ≡ true
 unfolding tagShapes formed alone joined timeIn unzoned shapeOf days months hours minutes
 all-formed = refl
@@ -200,3 +206,17 @@ unshaped-4 s e = go (formed s) refl
     go : (o : Outcome Tag) → formed s ≡ o → formed s ≡ refused 4
     go (done t) f = never-both (formed-shaped s t f) e
     go (refused n) f = f ∙ ap refused (formed-4 s n f)
+
+-- ---- a full code is a tag from which nothing is deleted
+all-codes : passes (λ p. shaped tagShapes p) codeShapes ≡ true
+unfolding codeShapes tagShapes shaped shapeOf days months hours minutes
+all-codes = refl
+
+pub code-tag : (s : List ℕ) → shaped codeShapes s ≡ true → shaped tagShapes s ≡ true
+code-tag s e =
+    shaped-alike tagShapes s (shapeOf s) (sym (shape-shape s)) ∙ each-shape (λ p. shaped tagShapes p) codeShapes s all-codes e
+
+-- ---- longest starts that begin a tag, by computation: no T behind a month; a letter for a digit; two digits too many; something behind Z
+starts : map (along tagShapes) (bytes "2016-12T10" ∷ bytes "2016-1x" ∷ bytes "12:345" ∷ bytes "12Z5" ∷ bytes "::" ∷ bytes "x" ∷ []) ≡ 7 ∷ 6 ∷ 5 ∷ 3 ∷ 2 ∷ 0 ∷ []
+unfolding along begins tagShapes shapeOf days months hours minutes
+starts = refl

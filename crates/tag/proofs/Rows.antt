@@ -6,14 +6,13 @@ use Prim.Native.Nat.{ℕ, zero, suc, _+_, _<_, _≤_}
 use native.Mathlib.Nat.{not-suc-le-zero, le-of-suc-le-suc}
 use native.Mathlib.Numerals.{add-one}
 use native.Mathlib.Omega.{arith}
-use borrow.Author.Tests.{eqb-true, eq-eqb, ne-eqb, leb-true, lt-ltb, le-ltb}
+use borrow.Author.Tests.{eq-eqb, ne-eqb, leb-true, lt-ltb, le-ltb}
 use lib.Dec.{eqb, leb}
-use lib.ListN.{length, getD, take, drop, replicate, length-map, List·getD-map}
-use lib.Seq.{getD-take, getD-drop, slice-cons, slice-empty}
+use lib.ListN.{length, getD, take, drop, replicate, List·getD-map}
+use lib.Seq.{getD-take, slice-cons, slice-empty}
 use Rattle.base.specs.Outcome.{done, refused}
 use Rattle.base.proofs.Bools.{and-true, cond-yes, cond-no}
 use Rattle.octets.specs.Places.{allGood, digitGood}
-use Rattle.octets.proofs.Places.{all-good, good-at}
 use Rattle.shape.proofs.Tests.{downTo, down-at, same-is, same-size}
 use Rattle.shape.specs.Shapes.{kindOf, shapeOf, same, fits}
 use Rattle.shape.proofs.Shapes as S
