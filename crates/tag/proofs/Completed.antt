@@ -6,13 +6,12 @@ use Prim.Native.Nat.{ℕ, _+_, _-_, _*_, _/_, _%_, _^_, _≤_, _<_}
 use native.Mathlib.Omega.{arith}
 use lib.Dec.{leb, ltb}
 use lib.ListN.{length, take, drop}
-use borrow.Author.Tests.{ltb-true}
+use borrow.Author.Tests.{eqb-true, ltb-true}
 use Rattle.base.specs.Outcome.{Outcome, done, refused, need, given}
 use Rattle.base.proofs.Ladders.{done-is, need-done, then-done, given-done}
 use Rattle.base.proofs.Bools.{and-true}
 use Rattle.octets.specs.Places.{digits}
 use Rattle.ascii.specs.declared.Layout.{Layout}
-use Rattle.shape.specs.Quoted.{bytes}
 use Rattle.clock.specs.Clock.{minuteOf}
 use Rattle.ascii.specs.Ascii.{ticksOf, zoneText, codeText}
 use Rattle.ascii.proofs.Shapes.{lay}
@@ -24,7 +23,7 @@ use Rattle.tag.specs.Shortening.{cut, lowFrom, Run, Shortening, calendar
 use Rattle.tag.proofs.Scans.{until-cut}
 use Rattle.tag.proofs.Subfields.{dated, clocked, calendar-of, clock-of, zone-of}
 use Rattle.tag.proofs.Dates.{DayBack, whole-back, day-back}
-use Rattle.tag.proofs.TimesBack.{is-may, low-is, TimeBack, behind-back, alone-back}
+use Rattle.tag.proofs.Clocks.{TimeBack, behind-back, alone-back}
 
 -- the full code of a day, a second of it and a tick count that a text is a shortening of
 pub record Completed (n x k : ℕ) (s : List ℕ) : Type 0 where
@@ -79,7 +78,7 @@ unfolding clockFits
 at-midnight x e =
     let (a, q) = and-true _ _ e in
     let (b, c) = and-true _ _ q in
-    rw (low-is 2 (minuteOf x / 60) 0 (bytes "00") (sym (is-may _ _ a)) refl, low-is 2 (minuteOf x % 60) 0 (bytes "00") (sym (is-may _ _ b)) refl, low-is 2 (x - minuteOf x * 60) 0 (bytes "00") (sym (is-may _ _ c)) refl)
+    rw (← eqb-true 0 (minuteOf x / 60) a, ← eqb-true 0 (minuteOf x % 60) b, ← eqb-true 0 (x - minuteOf x * 60) c)
 
 module _ (n x : ℕ) (s : List ℕ) where
   day-code : {w : Bool} → DayBack n s w → lowFrom 0 (clocked x []) ≡ true → Completed n x 0 s
@@ -97,7 +96,7 @@ module _ (n x : ℕ) (s : List ℕ) where
             (calendar (b .lo) (b .hi) (rw e (b .run)) (rw (clock-of l n x 0 (omega arith)) z));
       }
 
-  time-code : (k : ℕ) → TimeBack false x k s → Completed n x k s
+  time-code : {w : Bool} (k : ℕ) → TimeBack w x k s → Completed n x k s
   time-code k b =
       let l = lay false (b .digits-of) (b .zone) in
       let f = b .number-of in
@@ -139,9 +138,9 @@ both-code n x k s c r i d b =
     }
 
 -- each day and second that have what a tag wants
-pub completed : (s : List ℕ) (t : Tag) (n x : ℕ) → n ≤ 3652058 → Parts s t → dayFits (t .calendar) n ≡ true → clockFits (t .clock) x ≡ true → Completed n x (t .ticks) s
-completed s t n x h (day f e i) p q =
+pub completed : (s : List ℕ) (t : Tag) (n x : ℕ) → n ≤ 3652058 → x ≤ 86400 → Parts s t → dayFits (t .calendar) n ≡ true → clockFits (t .clock) x ≡ true → Completed n x (t .ticks) s
+completed s t n x h l (day f e i) p q =
     rw (← i) (day-code n x s (day-back n h s f e (rw (← i) at p) .1) (at-midnight x (rw (← i) at q)))
-completed s t n x h (clock k e i) p q = rw (← i) (time-code n x s (k .ticks) (alone-back x s k e (rw (← i) at q)))
-completed s t n x h (joint c r f k j e g i) p q =
-    rw (← i) (both-code n x (k .ticks) s c r j (whole-back n h c f e (rw (← i) at p)) (behind-back x r k g (rw (← i) at q)))
+completed s t n x h l (clock k e i) p q = rw (← i) (time-code n x s (k .ticks) (alone-back x l s k e (rw (← i) at q) .1))
+completed s t n x h l (joint c r f k j e g i) p q =
+    rw (← i) (both-code n x (k .ticks) s c r j (whole-back n h c f e (rw (← i) at p)) (behind-back x l r k g (rw (← i) at q)))

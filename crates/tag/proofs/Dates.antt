@@ -1,5 +1,5 @@
 -- Each form of a calendar is one run of a date's subfields: what is left of a date wants what the date has, and a text that wants what a date has is what is left of it.
-use mathlib.Core.Path.{_≡_, refl, sym, ap, subst, _∙_}
+use mathlib.Core.Path.{_≡_, refl, sym, ap, ap₂, subst, _∙_}
 use mathlib.Core.Bool.{Bool, true, false, _&&_, false≢true}
 use mathlib.Core.List.{List, [], _∷_, _++_}
 use Prim.Native.Nat.{ℕ, zero, suc, _+_, _-_, _^_, _≤_, _<_}
@@ -9,14 +9,13 @@ use lib.ListN.{length}
 use borrow.Author.Tests.{eqb-true}
 use Rattle.base.specs.Outcome.{done}
 use Rattle.base.proofs.Bools.{and-true, and-one, and-assoc}
-use Rattle.octets.specs.Places.{digits}
 use Rattle.calendar.specs.declared.Ordinal.{Ordinal}
 use Rattle.calendar.specs.Gregorian.{kind, row, upTo, monthsTo, ordinalOn, dateIn}
 use Rattle.calendar.proofs.Years.{kind-lt}
 use Rattle.calendar.proofs.Dates.{good-on}
 use Rattle.calendar.proofs.Promises.{date-at-done, date-fields}
 use Rattle.shape.specs.Quoted.{bytes}
-use Rattle.shape.specs.Shapes.{shapeOf, same}
+use Rattle.shape.specs.Shapes.{shapeOf}
 use Rattle.shape.specs.Parts.{dateA, dateB}
 use Rattle.shape.proofs.Tests.{yes-both}
 use Rattle.shape.proofs.Shapes.{shape-length}
@@ -96,10 +95,10 @@ module _ (n : ℕ) (h : n ≤ 3652058) {w o : Bool} {lo hi : ℕ} {f : Form} (k 
         reaches = λ t. eqb-true hi (length (dated o n)) (k .reaches ∙ t);
       }
 
-one-low : (a x : Bool) → a && x ≡ a && true && x
+pub one-low : (a x : Bool) → a && x ≡ a && true && x
 one-low a x = sym (and-assoc a true x)
 
-two-low : (a b x : Bool) → a && (b && x) ≡ a && (b && true) && x
+pub two-low : (a b x : Bool) → a && (b && x) ≡ a && (b && true) && x
 two-low true b x = one-low b x
 two-low false b x = refl
 
@@ -132,11 +131,12 @@ module _ (n : ℕ) (h : n ≤ 3652058) where
       let (a, b, c, d, e, f) = date-fields n (dateIn (ordinalOn n)) (date-at-done n h) in
       (omega (arith, good-on n h .year-high), omega arith, omega arith, omega (arith, good-on n h .day-high, kind-lt y))
 
-  low-month : same (digits 2 m) (bytes "01") ≡ eqb 1 m
-  low-month = same-digits 2 m 1 (small-all .1) (omega arith)
+  -- what is deleted on the right stood at its lowest value
+  low-day : lowFrom 2 (dated false n) ≡ eqb 1 d && true
+  low-day = ap (λ (t : Bool). t && true) (same-digits 2 d 1 (small-all .2) (omega arith))
 
-  low-day : same (digits 2 d) (bytes "01") ≡ eqb 1 d
-  low-day = same-digits 2 d 1 (small-all .2) (omega arith)
+  low-month : lowFrom 1 (dated false n) ≡ eqb 1 m && (eqb 1 d && true)
+  low-month = ap₂ _&&_ (same-digits 2 m 1 (small-all .1) (omega arith)) low-day
 
   -- all that is computed
   module _ (w : Bool) (f : Form) (b : Bool) (l k : ℕ) (ps : List Piece) where
@@ -183,21 +183,21 @@ module _ (n : ℕ) (h : n ≤ 3652058) where
   to-month =
       let (a, b, c, e) = small-all in
       keep false (form (bytes "0000-00") (at 0) (at 5) lowest free) false 0 2 (num 4 y ∷ sep 45 ∷ num 2 m ∷ []) (omega arith) (omega arith) refl refl refl refl refl refl (λ t. absurd (false≢true t)) (a, (b, tt))
-      (λ s. rw low-day (two-low (eqb (numberAt s 0 4) y) (eqb (numberAt s 5 2) m) (eqb 1 d && true)))
+      (λ s. two-low (eqb (numberAt s 0 4) y) (eqb (numberAt s 5 2) m) (eqb 1 d && true) ∙ ap (λ (t : Bool). eqb (numberAt s 0 4) y && (eqb (numberAt s 5 2) m && true) && t) (sym low-day))
 
   month-only : Kept n false false 1 2 (form (bytes "-00") free (at 1) lowest free)
   unfolding days months dayFits calendarAs shapeOf dateIn
   month-only =
       let (a, b, c, e) = small-all in
       keep false (form (bytes "-00") free (at 1) lowest free) false 1 2 (sep 45 ∷ num 2 m ∷ []) (omega arith) (omega arith) refl refl refl refl refl refl (λ t. absurd (false≢true t)) (b, tt)
-      (λ s. rw low-day (one-low (eqb (numberAt s 1 2) m) (eqb 1 d && true)))
+      (λ s. one-low (eqb (numberAt s 1 2) m) (eqb 1 d && true) ∙ ap (λ (t : Bool). eqb (numberAt s 1 2) m && true && t) (sym low-day))
 
   year-only : Kept n false false 0 1 (form (bytes "0000") (at 0) lowest lowest free)
   unfolding days months dayFits calendarAs shapeOf dateIn
   year-only =
       let (a, b, c, e) = small-all in
       keep false (form (bytes "0000") (at 0) lowest lowest free) false 0 1 (num 4 y ∷ []) (omega arith) (omega arith) refl refl refl refl refl refl (λ t. absurd (false≢true t)) (a, tt)
-      (λ s. rw (low-month, low-day) (one-low (eqb (numberAt s 0 4) y) (eqb 1 m && (eqb 1 d && true))))
+      (λ s. one-low (eqb (numberAt s 0 4) y) (eqb 1 m && (eqb 1 d && true)) ∙ ap (λ (t : Bool). eqb (numberAt s 0 4) y && true && t) (sym low-month))
 
   -- ---- a date, shortened: each run of its subfields
   first-low : lowFrom 1 (dated true n) ≡ true → lowFrom 1 (dated false n) ≡ true

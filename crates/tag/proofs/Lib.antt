@@ -9,9 +9,9 @@ pub mod Known
 pub mod Subfields
 pub mod Fractions
 pub mod Heads
-pub mod TimesForth
+pub mod Splits
+pub mod Clocks
 pub mod Shortened
-pub mod TimesBack
 pub mod Completed
 pub mod Witness
 pub mod Permitted

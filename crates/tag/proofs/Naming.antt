@@ -145,7 +145,7 @@ module _ (t : Table) (g : reckons t ≡ true) where
       go (done u) h f =
           let (d, c) = and-true (dayFits (w .calendar) (u .day)) (clockFits (w .clock) (u .second)) f in
           let b = reading-back t (table-good t g) (m .sec) u h in
-          let (code, (q, r)) = code-of s (u .day) (u .second) (w .ticks) (omega (arith, b .covered, last-index t g)) (b .low) (completed s w (u .day) (u .second) (omega (arith, b .covered, last-index t g)) p d c) in
+          let (code, (q, r)) = code-of s (u .day) (u .second) (w .ticks) (omega (arith, b .covered, last-index t g)) (b .low) (completed s w (u .day) (u .second) (omega (arith, b .covered, last-index t g)) (b .low) p d c) in
           (code, (q, read-so t (text code) _ m r (time-done t _ (m .sec) (utc-index t (table-good t g) (u .day) (u .second) (b .low) ∙ b .back) ∙ ap (λ (k : ℕ). done (record { sec = m .sec; ticks = k })) (sym i))))
 
 -- ---- refused 4
@@ -163,5 +163,5 @@ nameless-refused s l none = go (wantOf s) refl
         let (p, g) = parts s w e in
         let (n, high, d) = day-exists s w p g in
         let (x, low, c) = second-exists w g in
-        let (code, (f, r)) = code-of s n x (w .ticks) high low (completed s w n x high p d c) in
+        let (code, (f, r)) = code-of s n x (w .ticks) high low (completed s w n x high low p d c) in
         never 4 _ (sym (none code f) ∙ r)

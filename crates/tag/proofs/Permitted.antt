@@ -22,7 +22,7 @@ use Rattle.seek.specs.declared.Tag.{Tag}
 use Rattle.tag.specs.Forms.{Place, free, lowest, at, Form, Forms, days, months, hours, minutes, find, shapesOf, endings, timeShapes, tagShapes}
 use Rattle.tag.specs.Tags.{until, isLowest, clockAs, calendarAs, fractionAs, Daytime, daytime, unzoned, timeIn, tag, anyDay, aloneBy, alone, joined, formed}
 use Rattle.tag.proofs.Scans.{until-shape, find-alike}
-use Rattle.tag.proofs.TimesBack.{Follows, none, part, split}
+use Rattle.tag.proofs.Splits.{Follows, none, part, split}
 use Rattle.tag.proofs.Completed.{Parts, day, clock, joint, parts-formed}
 use Rattle.tag.proofs.Witness.{formed-4}
 

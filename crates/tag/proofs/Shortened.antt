@@ -24,7 +24,7 @@ use Rattle.tag.proofs.Scans.{until-past}
 use Rattle.tag.proofs.Ladder.{joined-done, alone-day, alone-time, formed-joined, formed-alone, tag-done}
 use Rattle.tag.proofs.Subfields.{dated, calendar-of, clock-of, zone-of}
 use Rattle.tag.proofs.Dates.{Dated, date-forth}
-use Rattle.tag.proofs.TimesForth.{Timing, Ticking, time-forth, low-hour}
+use Rattle.tag.proofs.Clocks.{Timing, Ticking, time-forth, low-hour}
 
 -- ---- a text that is a tag
 no-text : {X : Type 0} (f : Form) → find (days ++ months) [] ≡ done f → X
@@ -87,20 +87,20 @@ module _ (l : Layout) (n x f : ℕ) (hn : n ≤ 3652058) (hx : x ≤ 86400) (hd 
   pub wants : {s : List ℕ} → Shortening (codeText l n x f) s → Wants n x (ticksOf (l .digits) f) s
   wants (calendar lo hi r low) =
       let e = calendar-of l n x f hd in
-      let (a, b, c, k) = low-hour x (l .digits) f hx hd hf (l .zone) (rw (clock-of l n x f hd) at low) in
+      let (a, b, c, k) = low-hour x hx (l .digits) f hd hf (l .zone) (rw (clock-of l n x f hd) at low) in
       rw e
       (let d = date-forth n hn (l .ordinal) lo hi (rw e at r) in
       record { wanted = tag (calendarAs _ (d .form-is)) midnight; told = day-alone n _ (d .form-is) (d .told); day = d .told .fits; second = at-midnight x a b c; ticks = sym k })
   wants (time lo hi i r) =
       rw (clock-of l n x f hd, zone-of l n x f hd)
-      (let t = time-forth x (l .digits) f hx hd hf (l .zone) lo hi i (rw (clock-of l n x f hd) at r) in
+      (let t = time-forth x hx (l .digits) f hd hf (l .zone) lo hi i (rw (clock-of l n x f hd) at r) in
       record { wanted = tag anyDay (daytime (t .alone .clock) (ticksOf (l .digits) f)); told = time-alone _ _ _ _ t; day = any-fits n; second = t .alone .fits; ticks = refl })
   wants (both lo hi r q) =
       let e = calendar-of l n x f hd in
       let g = clock-of l n x f hd in
       rw (e, g, zone-of l n x f hd)
       (let d = date-forth n hn (l .ordinal) lo (length (dated (l .ordinal) n)) (rw e at r) in
-      let t = time-forth x (l .digits) f hx hd hf (l .zone) 0 hi (omega arith) (rw g at q) in
+      let t = time-forth x hx (l .digits) f hd hf (l .zone) 0 hi (omega arith) (rw g at q) in
       let b = t .behind refl in
       record {
         wanted = tag (calendarAs _ (d .form-is)) (daytime (b .clock) (ticksOf (l .digits) f));
