@@ -234,97 +234,60 @@ module _ (x : ℕ) (hx : x ≤ 86400) where
   low-second : same (digits 2 s) (bytes "00") ≡ eqb 0 s
   low-second = same-digits 2 s 0 (small-all .2) (omega arith)
 
-  -- without the second, and with it
-  module _ (b : Bool) (lo k : ℕ) (f : Form) (ps : List Piece) (l : Bool) where
-    short : isLowest (f .third) ≡ true → lo < k → k ≤ 3 → (b ≡ true → lo ≡ 0) → clean ps ≡ true → Small ps → ((ds : List ℕ) → spell ps ++ [] ≡ cut lo k (clocked x ds)) → outline ps ≡ f .shape
-        → (until 84 (f .shape) ≡ length (f .shape)) × (until 90 (f .shape) ≡ length (f .shape)) × (until 46 (f .shape) ≡ length (f .shape)) → find (hours ++ minutes) (f .shape) ≡ done f → (b ≡ true → find hours (f .shape) ≡ done f)
-        → ((t : List ℕ) → Tail t → (z : Bool) → find (days ++ months) (f .shape ++ (t ++ zoneText z)) ≡ refused 4) → ((ds : List ℕ) → lowFrom k (clocked x ds) ≡ l && lowFrom 0 (digitsBy (bytes ".") ds)) → ((c : List ℕ) → clockFits (clockAs c f) x ≡ agree 0 c ps && l) → Kept x b lo (λ j. k) f
-    short v i e a t n w p u g r o y q = record {
-      early = omega arith;
-      first = a;
-      some = λ j c. i;
-      end = λ j. omega arith;
-      pieces = ps;
-      tidy = t;
-      small = n;
-      text = λ j ds c. rw (c v) (w ds);
-      shape = p;
-      plain = u;
-      found = g;
-      found-hour = r;
-      other = o;
-      lows = l;
-      low = λ j ds c. rw (c v) (y ds);
-      wants = q;
-    }
-
-  module _ (b : Bool) (lo : ℕ) (f : Form) (ps : List Piece) where
-    long : isLowest (f .third) ≡ false → lo ≤ 3 → ((j : ℕ) → (isFree (f .third) ≡ true → 1 ≤ j) → lo < suc (suc (suc j))) → (b ≡ true → lo ≡ 0) → clean ps ≡ true → Small ps → ((j : ℕ) (ds : List ℕ) → spell ps ++ cut 0 j (digitsBy (bytes ".") ds) ≡ cut lo (suc (suc (suc j))) (clocked x ds)) → outline ps ≡ f .shape
-        → (until 84 (f .shape) ≡ length (f .shape)) × (until 90 (f .shape) ≡ length (f .shape)) × (until 46 (f .shape) ≡ length (f .shape)) → find (hours ++ minutes) (f .shape) ≡ done f → (b ≡ true → find hours (f .shape) ≡ done f)
-        → ((t : List ℕ) → Tail t → (z : Bool) → find (days ++ months) (f .shape ++ (t ++ zoneText z)) ≡ refused 4) → ((c : List ℕ) → clockFits (clockAs c f) x ≡ agree 0 c ps && true) → Kept x b lo (λ j. suc (suc (suc j))) f
-    long v i e a t n w p u g r o q = record {
-      early = i;
-      first = a;
-      some = e;
-      end = λ j. omega arith;
-      pieces = ps;
-      tidy = t;
-      small = n;
-      text = λ j ds c. w j ds;
-      shape = p;
-      plain = u;
-      found = g;
-      found-hour = r;
-      other = o;
-      lows = true;
-      low = λ j ds c. refl;
-      wants = q;
-    }
+  module _ (b : Bool) (lo : ℕ) (to : ℕ → ℕ) (f : Form) (ps : List Piece) (l : Bool) where
+    keep : lo ≤ 3 → (b ≡ true → lo ≡ 0) → ((j : ℕ) → (isFree (f .third) ≡ true → 1 ≤ j) → lo < to j) → ((j : ℕ) → to j ≤ 3 + j) → clean ps ≡ true → Small ps → ((j : ℕ) (ds : List ℕ) → (isLowest (f .third) ≡ true → j ≡ 0) → spell ps ++ cut 0 j (digitsBy (bytes ".") ds) ≡ cut lo (to j) (clocked x ds)) → outline ps ≡ f .shape
+        → (until 84 (f .shape) ≡ length (f .shape)) × (until 90 (f .shape) ≡ length (f .shape)) × (until 46 (f .shape) ≡ length (f .shape)) → find (hours ++ minutes) (f .shape) ≡ done f → (b ≡ true → find hours (f .shape) ≡ done f) → ((t : List ℕ) → Tail t → (z : Bool) → find (days ++ months) (f .shape ++ (t ++ zoneText z)) ≡ refused 4)
+        → ((j : ℕ) (ds : List ℕ) → (isLowest (f .third) ≡ true → j ≡ 0) → lowFrom (to j) (clocked x ds) ≡ l && lowFrom j (digitsBy (bytes ".") ds)) → ((c : List ℕ) → clockFits (clockAs c f) x ≡ agree 0 c ps && l) → Kept x b lo to f
+    keep i a e k t n w p u g r o y q = record { early = i; first = a; some = e; end = k; pieces = ps; tidy = t; small = n; text = w; shape = p; plain = u; found = g; found-hour = r; other = o; lows = l; low = y; wants = q }
 
   hour-only : Kept x true 0 (λ j. 1) (form (bytes "00") (at 0) lowest lowest free)
   unfolding hours minutes days months clockFits clockAs shapeOf
   hour-only =
       let (a, b, c) = small-all in
-      short true 0 1 (form (bytes "00") (at 0) lowest lowest free) (num 2 h ∷ []) (eqb 0 m && eqb 0 s) refl (omega arith) (omega arith) (λ i. refl) refl (a, tt) (λ ds. refl) refl (refl, refl, refl) refl (λ i. refl) no-day
-      (λ ds. rw (low-minute, low-second) (sym (and-assoc (eqb 0 m) (eqb 0 s) (lowFrom 0 (digitsBy (bytes ".") ds))))) (λ t. one-low (eqb (numberAt t 0 2) h) (eqb 0 m && eqb 0 s))
+      keep true 0 (λ j. 1) (form (bytes "00") (at 0) lowest lowest free) (num 2 h ∷ []) (eqb 0 m && eqb 0 s) (omega arith) (λ i. refl) (λ j i. omega arith) (λ j. omega arith) refl (a, tt) (λ j ds e. rw (e refl)) refl (refl, refl, refl) refl (λ i. refl) no-day
+      (λ j ds e. rw (e refl, low-minute, low-second) (sym (and-assoc (eqb 0 m) (eqb 0 s) (lowFrom 0 (digitsBy (bytes ".") ds))))) (λ t. one-low (eqb (numberAt t 0 2) h) (eqb 0 m && eqb 0 s))
 
   to-minute : Kept x true 0 (λ j. 2) (form (bytes "00:00") (at 0) (at 3) lowest free)
   unfolding hours minutes days months clockFits clockAs shapeOf
   to-minute =
       let (a, b, c) = small-all in
-      short true 0 2 (form (bytes "00:00") (at 0) (at 3) lowest free) (num 2 h ∷ sep 58 ∷ num 2 m ∷ []) (eqb 0 s) refl (omega arith) (omega arith) (λ i. refl) refl (a, (b, tt)) (λ ds. refl) refl (refl, refl, refl) refl (λ i. refl) (λ t a z. refl)
-      (λ ds. rw low-second) (λ t. two-low (eqb (numberAt t 0 2) h) (eqb (numberAt t 3 2) m) (eqb 0 s))
+      keep true 0 (λ j. 2) (form (bytes "00:00") (at 0) (at 3) lowest free) (num 2 h ∷ sep 58 ∷ num 2 m ∷ []) (eqb 0 s) (omega arith) (λ i. refl) (λ j i. omega arith) (λ j. omega arith) refl (a, (b, tt)) (λ j ds e. rw (e refl)) refl (refl, refl, refl) refl (λ i. refl) (λ t a z. refl)
+      (λ j ds e. rw (e refl, low-second)) (λ t. two-low (eqb (numberAt t 0 2) h) (eqb (numberAt t 3 2) m) (eqb 0 s))
 
   full-time : Kept x true 0 (λ j. suc (suc (suc j))) (form fullClock (at 0) (at 3) (at 6) free)
   unfolding hours minutes days months clockFits clockAs shapeOf
   full-time =
       let (a, b, c) = small-all in
-      long true 0 (form fullClock (at 0) (at 3) (at 6) free) (num 2 h ∷ sep 58 ∷ num 2 m ∷ sep 58 ∷ num 2 s ∷ []) refl (omega arith) (λ j i. omega arith) (λ i. refl) refl (a, (b, (c, tt))) (λ j ds. refl) refl (refl, refl, refl) refl (λ i. refl) (λ t a z. refl) (λ t. ap (λ (r : Bool). eqb (numberAt t 0 2) h && (eqb (numberAt t 3 2) m && r)) (and-one _) ∙ and-one _)
+      keep true 0 (λ j. suc (suc (suc j))) (form fullClock (at 0) (at 3) (at 6) free) (num 2 h ∷ sep 58 ∷ num 2 m ∷ sep 58 ∷ num 2 s ∷ []) (true) (omega arith) (λ i. refl) (λ j i. omega arith) (λ j. omega arith) refl (a, (b, (c, tt))) (λ j ds e. refl) refl (refl, refl, refl) refl (λ i. refl) (λ t a z. refl)
+      (λ j ds e. refl) (λ t. ap (λ (r : Bool). eqb (numberAt t 0 2) h && (eqb (numberAt t 3 2) m && r)) (and-one _) ∙ and-one _)
 
   minute-only : Kept x false 1 (λ j. 2) (form (bytes ":00") free (at 1) lowest free)
   unfolding hours minutes days months clockFits clockAs shapeOf
   minute-only =
       let (a, b, c) = small-all in
-      short false 1 2 (form (bytes ":00") free (at 1) lowest free) (sep 58 ∷ num 2 m ∷ []) (eqb 0 s) refl (omega arith) (omega arith) (λ i. absurd (false≢true i)) refl (b, tt) (λ ds. refl) refl (refl, refl, refl) refl (λ i. absurd (false≢true i)) (λ t a z. refl)
-      (λ ds. rw low-second) (λ t. one-low (eqb (numberAt t 1 2) m) (eqb 0 s))
+      keep false 1 (λ j. 2) (form (bytes ":00") free (at 1) lowest free) (sep 58 ∷ num 2 m ∷ []) (eqb 0 s) (omega arith) (λ i. absurd (false≢true i)) (λ j i. omega arith) (λ j. omega arith) refl (b, tt) (λ j ds e. rw (e refl)) refl (refl, refl, refl) refl (λ i. absurd (false≢true i)) (λ t a z. refl)
+      (λ j ds e. rw (e refl, low-second)) (λ t. one-low (eqb (numberAt t 1 2) m) (eqb 0 s))
 
   from-minute : Kept x false 1 (λ j. suc (suc (suc j))) (form (bytes ":00:00") free (at 1) (at 4) free)
   unfolding hours minutes days months clockFits clockAs shapeOf
   from-minute =
       let (a, b, c) = small-all in
-      long false 1 (form (bytes ":00:00") free (at 1) (at 4) free) (sep 58 ∷ num 2 m ∷ sep 58 ∷ num 2 s ∷ []) refl (omega arith) (λ j i. omega arith) (λ i. absurd (false≢true i)) refl (b, (c, tt)) (λ j ds. refl) refl (refl, refl, refl) refl (λ i. absurd (false≢true i)) (λ t a z. refl) (λ t. ap (λ (r : Bool). eqb (numberAt t 1 2) m && r) (and-one _) ∙ and-one _)
+      keep false 1 (λ j. suc (suc (suc j))) (form (bytes ":00:00") free (at 1) (at 4) free) (sep 58 ∷ num 2 m ∷ sep 58 ∷ num 2 s ∷ []) (true) (omega arith) (λ i. absurd (false≢true i)) (λ j i. omega arith) (λ j. omega arith) refl (b, (c, tt)) (λ j ds e. refl) refl (refl, refl, refl) refl (λ i. absurd (false≢true i)) (λ t a z. refl)
+      (λ j ds e. refl) (λ t. ap (λ (r : Bool). eqb (numberAt t 1 2) m && r) (and-one _) ∙ and-one _)
 
   from-second : Kept x false 2 (λ j. suc (suc (suc j))) (form (bytes "::00") free free (at 2) free)
   unfolding hours minutes days months clockFits clockAs shapeOf
   from-second =
       let (a, b, c) = small-all in
-      long false 2 (form (bytes "::00") free free (at 2) free) (sep 58 ∷ sep 58 ∷ num 2 s ∷ []) refl (omega arith) (λ j i. omega arith) (λ i. absurd (false≢true i)) refl (c, tt) (λ j ds. refl) refl (refl, refl, refl) refl (λ i. absurd (false≢true i)) (λ t a z. refl) (λ t. and-one _ ∙ and-one _)
+      keep false 2 (λ j. suc (suc (suc j))) (form (bytes "::00") free free (at 2) free) (sep 58 ∷ sep 58 ∷ num 2 s ∷ []) (true) (omega arith) (λ i. absurd (false≢true i)) (λ j i. omega arith) (λ j. omega arith) refl (c, tt) (λ j ds e. refl) refl (refl, refl, refl) refl (λ i. absurd (false≢true i)) (λ t a z. refl)
+      (λ j ds e. refl) (λ t. and-one _ ∙ and-one _)
 
   from-fraction : Kept x false 3 (λ j. suc (suc (suc j))) (form (bytes "::") free free free free)
   unfolding hours minutes days months clockFits clockAs shapeOf
   from-fraction =
       let (a, b, c) = small-all in
-      long false 3 (form (bytes "::") free free free free) (sep 58 ∷ sep 58 ∷ []) refl (omega arith) (λ j i. omega (arith, i refl)) (λ i. absurd (false≢true i)) refl tt (λ j ds. refl) refl (refl, refl, refl) refl (λ i. absurd (false≢true i)) (λ t a z. refl) (λ t. refl)
+      keep false 3 (λ j. suc (suc (suc j))) (form (bytes "::") free free free free) (sep 58 ∷ sep 58 ∷ []) (true) (omega arith) (λ i. absurd (false≢true i)) (λ j i. omega (arith, i refl)) (λ j. omega arith) refl tt (λ j ds e. refl) refl (refl, refl, refl) refl (λ i. absurd (false≢true i)) (λ t a z. refl)
+      (λ j ds e. refl) (λ t. refl)
 
   -- ---- a time, shortened: each run of its subfields
   module _ (d f : ℕ) (hd : d ≤ 12) (hf : f < 10 ^ d) (z : Bool) where
