@@ -16,7 +16,6 @@ use Rattle.clock.specs.Clock.{minuteOf}
 use Rattle.clock.proofs.Laws.{shown}
 use Rattle.shape.specs.Quoted.{bytes}
 use Rattle.shape.specs.Shapes.{shapeOf, same}
-use Rattle.shape.specs.Parts.{fullClock}
 use Rattle.shape.proofs.Tests.{fails, yes-both}
 use Rattle.shape.proofs.Shapes.{shape-length, shape-append}
 use Rattle.shape.proofs.Pieces.{Piece, sep, num, spell, outline, clean, Small, agree, agree-is, is-agree, agree-spelled, spell-shape, spelled, outlined, same-digits}
@@ -24,8 +23,9 @@ use Rattle.ascii.specs.Ascii.{numberAt, ticksOf, zoneText}
 use Rattle.ascii.proofs.Texts.{digits-length}
 use Rattle.seek.specs.declared.Clock.{Clock}
 use Rattle.seek.specs.Naming.{clockFits}
-use Rattle.tag.specs.Forms.{Place, Form, Forms, form, free, lowest, at, days, months, hours, minutes, find}
+use Rattle.tag.specs.Forms.{Place, Form, Forms, days, months, hours, minutes, find}
 use Rattle.tag.specs.Tags.{until, isFree, isLowest, clockAs, fractionAs, Daytime, daytime, timeIn, goodClock}
+use Rattle.tag.specs.Inner.{forms, formAt}
 use Rattle.tag.specs.Shortening.{digitsBy, cut, lowFrom, Run}
 use Rattle.tag.proofs.Scans.{until-shape, until-past, find-each, find-alike, find-spelled}
 use Rattle.tag.proofs.Subfields.{clocked}
@@ -240,53 +240,53 @@ module _ (x : ℕ) (hx : x ≤ 86400) where
         → ((j : ℕ) (ds : List ℕ) → (isLowest (f .third) ≡ true → j ≡ 0) → lowFrom (to j) (clocked x ds) ≡ l && lowFrom j (digitsBy (bytes ".") ds)) → ((c : List ℕ) → clockFits (clockAs c f) x ≡ agree 0 c ps && l) → Kept x b lo to f
     keep i a e k t n w p u g r o y q = record { early = i; first = a; some = e; end = k; pieces = ps; tidy = t; small = n; text = w; shape = p; plain = u; found = g; found-hour = r; other = o; lows = l; low = y; wants = q }
 
-  hour-only : Kept x true 0 (λ j. 1) (form (bytes "00") (at 0) lowest lowest free)
-  unfolding hours minutes days months clockFits clockAs shapeOf
+  hour-only : Kept x true 0 (λ j. 1) (formAt 8)
+  unfolding forms hours minutes days months clockFits clockAs shapeOf
   hour-only =
       let (a, b, c) = small-all in
-      keep true 0 (λ j. 1) (form (bytes "00") (at 0) lowest lowest free) (num 2 h ∷ []) (eqb 0 m && eqb 0 s) (omega arith) (λ i. refl) (λ j i. omega arith) (λ j. omega arith) refl (a, tt) (λ j ds e. rw (e refl)) refl (refl, refl, refl) refl (λ i. refl) no-day
+      keep true 0 (λ j. 1) (formAt 8) (num 2 h ∷ []) (eqb 0 m && eqb 0 s) (omega arith) (λ i. refl) (λ j i. omega arith) (λ j. omega arith) refl (a, tt) (λ j ds e. rw (e refl)) refl (refl, refl, refl) refl (λ i. refl) no-day
       (λ j ds e. rw (e refl, low-minute, low-second) (sym (and-assoc (eqb 0 m) (eqb 0 s) (lowFrom 0 (digitsBy (bytes ".") ds))))) (λ t. one-low (eqb (numberAt t 0 2) h) (eqb 0 m && eqb 0 s))
 
-  to-minute : Kept x true 0 (λ j. 2) (form (bytes "00:00") (at 0) (at 3) lowest free)
-  unfolding hours minutes days months clockFits clockAs shapeOf
+  to-minute : Kept x true 0 (λ j. 2) (formAt 9)
+  unfolding forms hours minutes days months clockFits clockAs shapeOf
   to-minute =
       let (a, b, c) = small-all in
-      keep true 0 (λ j. 2) (form (bytes "00:00") (at 0) (at 3) lowest free) (num 2 h ∷ sep 58 ∷ num 2 m ∷ []) (eqb 0 s) (omega arith) (λ i. refl) (λ j i. omega arith) (λ j. omega arith) refl (a, (b, tt)) (λ j ds e. rw (e refl)) refl (refl, refl, refl) refl (λ i. refl) (λ t a z. refl)
+      keep true 0 (λ j. 2) (formAt 9) (num 2 h ∷ sep 58 ∷ num 2 m ∷ []) (eqb 0 s) (omega arith) (λ i. refl) (λ j i. omega arith) (λ j. omega arith) refl (a, (b, tt)) (λ j ds e. rw (e refl)) refl (refl, refl, refl) refl (λ i. refl) (λ t a z. refl)
       (λ j ds e. rw (e refl, low-second)) (λ t. two-low (eqb (numberAt t 0 2) h) (eqb (numberAt t 3 2) m) (eqb 0 s))
 
-  full-time : Kept x true 0 (λ j. suc (suc (suc j))) (form fullClock (at 0) (at 3) (at 6) free)
-  unfolding hours minutes days months clockFits clockAs shapeOf
+  full-time : Kept x true 0 (λ j. suc (suc (suc j))) (formAt 10)
+  unfolding forms hours minutes days months clockFits clockAs shapeOf
   full-time =
       let (a, b, c) = small-all in
-      keep true 0 (λ j. suc (suc (suc j))) (form fullClock (at 0) (at 3) (at 6) free) (num 2 h ∷ sep 58 ∷ num 2 m ∷ sep 58 ∷ num 2 s ∷ []) (true) (omega arith) (λ i. refl) (λ j i. omega arith) (λ j. omega arith) refl (a, (b, (c, tt))) (λ j ds e. refl) refl (refl, refl, refl) refl (λ i. refl) (λ t a z. refl)
+      keep true 0 (λ j. suc (suc (suc j))) (formAt 10) (num 2 h ∷ sep 58 ∷ num 2 m ∷ sep 58 ∷ num 2 s ∷ []) (true) (omega arith) (λ i. refl) (λ j i. omega arith) (λ j. omega arith) refl (a, (b, (c, tt))) (λ j ds e. refl) refl (refl, refl, refl) refl (λ i. refl) (λ t a z. refl)
       (λ j ds e. refl) (λ t. ap (λ (r : Bool). eqb (numberAt t 0 2) h && (eqb (numberAt t 3 2) m && r)) (and-one _) ∙ and-one _)
 
-  minute-only : Kept x false 1 (λ j. 2) (form (bytes ":00") free (at 1) lowest free)
-  unfolding hours minutes days months clockFits clockAs shapeOf
+  minute-only : Kept x false 1 (λ j. 2) (formAt 11)
+  unfolding forms hours minutes days months clockFits clockAs shapeOf
   minute-only =
       let (a, b, c) = small-all in
-      keep false 1 (λ j. 2) (form (bytes ":00") free (at 1) lowest free) (sep 58 ∷ num 2 m ∷ []) (eqb 0 s) (omega arith) (λ i. absurd (false≢true i)) (λ j i. omega arith) (λ j. omega arith) refl (b, tt) (λ j ds e. rw (e refl)) refl (refl, refl, refl) refl (λ i. absurd (false≢true i)) (λ t a z. refl)
+      keep false 1 (λ j. 2) (formAt 11) (sep 58 ∷ num 2 m ∷ []) (eqb 0 s) (omega arith) (λ i. absurd (false≢true i)) (λ j i. omega arith) (λ j. omega arith) refl (b, tt) (λ j ds e. rw (e refl)) refl (refl, refl, refl) refl (λ i. absurd (false≢true i)) (λ t a z. refl)
       (λ j ds e. rw (e refl, low-second)) (λ t. one-low (eqb (numberAt t 1 2) m) (eqb 0 s))
 
-  from-minute : Kept x false 1 (λ j. suc (suc (suc j))) (form (bytes ":00:00") free (at 1) (at 4) free)
-  unfolding hours minutes days months clockFits clockAs shapeOf
+  from-minute : Kept x false 1 (λ j. suc (suc (suc j))) (formAt 12)
+  unfolding forms hours minutes days months clockFits clockAs shapeOf
   from-minute =
       let (a, b, c) = small-all in
-      keep false 1 (λ j. suc (suc (suc j))) (form (bytes ":00:00") free (at 1) (at 4) free) (sep 58 ∷ num 2 m ∷ sep 58 ∷ num 2 s ∷ []) (true) (omega arith) (λ i. absurd (false≢true i)) (λ j i. omega arith) (λ j. omega arith) refl (b, (c, tt)) (λ j ds e. refl) refl (refl, refl, refl) refl (λ i. absurd (false≢true i)) (λ t a z. refl)
+      keep false 1 (λ j. suc (suc (suc j))) (formAt 12) (sep 58 ∷ num 2 m ∷ sep 58 ∷ num 2 s ∷ []) (true) (omega arith) (λ i. absurd (false≢true i)) (λ j i. omega arith) (λ j. omega arith) refl (b, (c, tt)) (λ j ds e. refl) refl (refl, refl, refl) refl (λ i. absurd (false≢true i)) (λ t a z. refl)
       (λ j ds e. refl) (λ t. ap (λ (r : Bool). eqb (numberAt t 1 2) m && r) (and-one _) ∙ and-one _)
 
-  from-second : Kept x false 2 (λ j. suc (suc (suc j))) (form (bytes "::00") free free (at 2) free)
-  unfolding hours minutes days months clockFits clockAs shapeOf
+  from-second : Kept x false 2 (λ j. suc (suc (suc j))) (formAt 13)
+  unfolding forms hours minutes days months clockFits clockAs shapeOf
   from-second =
       let (a, b, c) = small-all in
-      keep false 2 (λ j. suc (suc (suc j))) (form (bytes "::00") free free (at 2) free) (sep 58 ∷ sep 58 ∷ num 2 s ∷ []) (true) (omega arith) (λ i. absurd (false≢true i)) (λ j i. omega arith) (λ j. omega arith) refl (c, tt) (λ j ds e. refl) refl (refl, refl, refl) refl (λ i. absurd (false≢true i)) (λ t a z. refl)
+      keep false 2 (λ j. suc (suc (suc j))) (formAt 13) (sep 58 ∷ sep 58 ∷ num 2 s ∷ []) (true) (omega arith) (λ i. absurd (false≢true i)) (λ j i. omega arith) (λ j. omega arith) refl (c, tt) (λ j ds e. refl) refl (refl, refl, refl) refl (λ i. absurd (false≢true i)) (λ t a z. refl)
       (λ j ds e. refl) (λ t. and-one _ ∙ and-one _)
 
-  from-fraction : Kept x false 3 (λ j. suc (suc (suc j))) (form (bytes "::") free free free free)
-  unfolding hours minutes days months clockFits clockAs shapeOf
+  from-fraction : Kept x false 3 (λ j. suc (suc (suc j))) (formAt 14)
+  unfolding forms hours minutes days months clockFits clockAs shapeOf
   from-fraction =
       let (a, b, c) = small-all in
-      keep false 3 (λ j. suc (suc (suc j))) (form (bytes "::") free free free free) (sep 58 ∷ sep 58 ∷ []) (true) (omega arith) (λ i. absurd (false≢true i)) (λ j i. omega (arith, i refl)) (λ j. omega arith) refl tt (λ j ds e. refl) refl (refl, refl, refl) refl (λ i. absurd (false≢true i)) (λ t a z. refl)
+      keep false 3 (λ j. suc (suc (suc j))) (formAt 14) (sep 58 ∷ sep 58 ∷ []) (true) (omega arith) (λ i. absurd (false≢true i)) (λ j i. omega (arith, i refl)) (λ j. omega arith) refl tt (λ j ds e. refl) refl (refl, refl, refl) refl (λ i. absurd (false≢true i)) (λ t a z. refl)
       (λ j ds e. refl) (λ t. refl)
 
   -- ---- a time, shortened: each run of its subfields
@@ -304,6 +304,7 @@ module _ (x : ℕ) (hx : x ≤ 86400) where
     count = omega (arith, digits-count (bytes ".") (digits d f), digits-length d f)
 
     pub time-forth : (l k : ℕ) → l ≤ 3 → Run l k (clocked x (digits d f)) → Ticking (eqb l 0) x (ticksOf d f) (cut l k (clocked x (digits d f)) ++ zoneText z)
+    unfolding forms days months hours minutes
     time-forth zero zero i r = absurd (omega (arith, r .some))
     time-forth (suc l) zero i r = absurd (omega (arith, r .some))
     time-forth zero (suc zero) i r = remains x hx hour-only d 0 f z hd hf (omega arith) (λ e. absurd (false≢true e)) (λ e. refl) (r .low)
@@ -336,14 +337,14 @@ module _ (x : ℕ) (hx : x ≤ 86400) where
       fits-head g = ap (λ (c : Clock). clockFits c x) (p .clock) ∙ g
 
     pub behind-back : timeIn hours t ≡ done k → clockFits (k .clock) x ≡ true → TimeBack true x (k .ticks) t
-    unfolding hours
+    unfolding forms days months hours minutes
     behind-back e g =
         let p = split hours t k e in
         find-each (Back p true) hours (p .head) (p .form-is) (p .found) (on p hour-only, (on p to-minute, (on p full-time, tt)))
         (fits-head p g) (p .ticks)
 
     pub alone-back : timeIn (hours ++ minutes) t ≡ done k → clockFits (k .clock) x ≡ true → (b : Bool) × TimeBack b x (k .ticks) t
-    unfolding hours minutes
+    unfolding forms days months hours minutes
     alone-back e g =
         let p = split (hours ++ minutes) t k e in
         find-each (Some p) (hours ++ minutes) (p .head) (p .form-is) (p .found)

@@ -14,16 +14,15 @@ use Rattle.calendar.specs.Gregorian.{kind, row, upTo, monthsTo, ordinalOn, date
 use Rattle.calendar.proofs.Years.{kind-lt}
 use Rattle.calendar.proofs.Dates.{good-on}
 use Rattle.calendar.proofs.Promises.{date-at-done, date-fields}
-use Rattle.shape.specs.Quoted.{bytes}
 use Rattle.shape.specs.Shapes.{shapeOf}
-use Rattle.shape.specs.Parts.{dateA, dateB}
 use Rattle.shape.proofs.Tests.{yes-both}
 use Rattle.shape.proofs.Shapes.{shape-length}
 use Rattle.shape.proofs.Pieces.{Piece, sep, num, spell, outline, clean, Small, agree, agree-is, is-agree, agree-spelled, spell-shape, spelled, same-digits}
 use Rattle.ascii.specs.Ascii.{numberAt}
 use Rattle.seek.specs.Naming.{dayFits}
-use Rattle.tag.specs.Forms.{Form, form, free, lowest, at, days, months, find}
+use Rattle.tag.specs.Forms.{Form, days, months, hours, minutes, find}
 use Rattle.tag.specs.Tags.{until, calendarAs, goodDay}
+use Rattle.tag.specs.Inner.{forms, formAt}
 use Rattle.tag.specs.Shortening.{cut, lowFrom, Run}
 use Rattle.tag.proofs.Scans.{until-shape, find-spelled, find-each}
 use Rattle.tag.proofs.Subfields.{dated}
@@ -143,60 +142,60 @@ module _ (n : ℕ) (h : n ≤ 3652058) where
     keep : l < k → k ≤ length (dated b n) → eqb k (length (dated b n)) ≡ w → clean ps ≡ true → spell ps ≡ cut l k (dated b n) → outline ps ≡ f .shape → until 84 (f .shape) ≡ length (f .shape) → find (days ++ months) (f .shape) ≡ done f → (w ≡ true → find days (f .shape) ≡ done f) → Small ps → ((c : List ℕ) → dayFits (calendarAs c f) n ≡ agree 0 c ps && lowFrom k (dated b n)) → Kept n w b l k f
     keep s e r t x p u g i a v = record { some = s; end = e; reaches = r; pieces = ps; tidy = t; small = a; text = x; shape = p; plain = u; found = g; first = i; wants = v }
 
-  full-date : Kept n true false 0 3 (form dateA (at 0) (at 5) (at 8) free)
-  unfolding days months dayFits calendarAs shapeOf dateIn
+  full-date : Kept n true false 0 3 (formAt 0)
+  unfolding forms days months hours minutes dayFits calendarAs shapeOf dateIn
   full-date =
       let (a, b, c, e) = small-all in
-      keep true (form dateA (at 0) (at 5) (at 8) free) false 0 3 (num 4 y ∷ sep 45 ∷ num 2 m ∷ sep 45 ∷ num 2 d ∷ []) (omega arith) (omega arith) refl refl refl refl refl refl (λ t. refl) (a, (b, (c, tt)))
+      keep true (formAt 0) false 0 3 (num 4 y ∷ sep 45 ∷ num 2 m ∷ sep 45 ∷ num 2 d ∷ []) (omega arith) (omega arith) refl refl refl refl refl refl (λ t. refl) (a, (b, (c, tt)))
       (λ s. and-one _)
 
-  from-month : Kept n true false 1 3 (form (bytes "-00-00") free (at 1) (at 4) free)
-  unfolding days months dayFits calendarAs shapeOf dateIn
+  from-month : Kept n true false 1 3 (formAt 1)
+  unfolding forms days months hours minutes dayFits calendarAs shapeOf dateIn
   from-month =
       let (a, b, c, e) = small-all in
-      keep true (form (bytes "-00-00") free (at 1) (at 4) free) false 1 3 (sep 45 ∷ num 2 m ∷ sep 45 ∷ num 2 d ∷ []) (omega arith) (omega arith) refl refl refl refl refl refl (λ t. refl) (b, (c, tt))
+      keep true (formAt 1) false 1 3 (sep 45 ∷ num 2 m ∷ sep 45 ∷ num 2 d ∷ []) (omega arith) (omega arith) refl refl refl refl refl refl (λ t. refl) (b, (c, tt))
       (λ s. and-one _)
 
-  from-day : Kept n true false 2 3 (form (bytes "--00") free free (at 2) free)
-  unfolding days months dayFits calendarAs shapeOf dateIn
+  from-day : Kept n true false 2 3 (formAt 2)
+  unfolding forms days months hours minutes dayFits calendarAs shapeOf dateIn
   from-day =
       let (a, b, c, e) = small-all in
-      keep true (form (bytes "--00") free free (at 2) free) false 2 3 (sep 45 ∷ sep 45 ∷ num 2 d ∷ []) (omega arith) (omega arith) refl refl refl refl refl refl (λ t. refl) (c, tt)
+      keep true (formAt 2) false 2 3 (sep 45 ∷ sep 45 ∷ num 2 d ∷ []) (omega arith) (omega arith) refl refl refl refl refl refl (λ t. refl) (c, tt)
       (λ s. and-one _)
 
-  full-ordinal : Kept n true true 0 2 (form dateB (at 0) free free (at 5))
-  unfolding days months dayFits calendarAs shapeOf dateIn
+  full-ordinal : Kept n true true 0 2 (formAt 3)
+  unfolding forms days months hours minutes dayFits calendarAs shapeOf dateIn
   full-ordinal =
       let (a, b, c, e) = small-all in
-      keep true (form dateB (at 0) free free (at 5)) true 0 2 (num 4 y ∷ sep 45 ∷ num 3 o ∷ []) (omega arith) (omega arith) refl refl refl refl refl refl (λ t. refl) (a, (e, tt))
+      keep true (formAt 3) true 0 2 (num 4 y ∷ sep 45 ∷ num 3 o ∷ []) (omega arith) (omega arith) refl refl refl refl refl refl (λ t. refl) (a, (e, tt))
       (λ s. ap (λ (t : Bool). eqb (numberAt s 0 4) y && t) (and-one _) ∙ and-one _)
 
-  from-ordinal : Kept n true true 1 2 (form (bytes "-000") free free free (at 1))
-  unfolding days months dayFits calendarAs shapeOf dateIn
+  from-ordinal : Kept n true true 1 2 (formAt 4)
+  unfolding forms days months hours minutes dayFits calendarAs shapeOf dateIn
   from-ordinal =
       let (a, b, c, e) = small-all in
-      keep true (form (bytes "-000") free free free (at 1)) true 1 2 (sep 45 ∷ num 3 o ∷ []) (omega arith) (omega arith) refl refl refl refl refl refl (λ t. refl) (e, tt)
+      keep true (formAt 4) true 1 2 (sep 45 ∷ num 3 o ∷ []) (omega arith) (omega arith) refl refl refl refl refl refl (λ t. refl) (e, tt)
       (λ s. and-one _ ∙ and-one _)
 
-  to-month : Kept n false false 0 2 (form (bytes "0000-00") (at 0) (at 5) lowest free)
-  unfolding days months dayFits calendarAs shapeOf dateIn
+  to-month : Kept n false false 0 2 (formAt 5)
+  unfolding forms days months hours minutes dayFits calendarAs shapeOf dateIn
   to-month =
       let (a, b, c, e) = small-all in
-      keep false (form (bytes "0000-00") (at 0) (at 5) lowest free) false 0 2 (num 4 y ∷ sep 45 ∷ num 2 m ∷ []) (omega arith) (omega arith) refl refl refl refl refl refl (λ t. absurd (false≢true t)) (a, (b, tt))
+      keep false (formAt 5) false 0 2 (num 4 y ∷ sep 45 ∷ num 2 m ∷ []) (omega arith) (omega arith) refl refl refl refl refl refl (λ t. absurd (false≢true t)) (a, (b, tt))
       (λ s. two-low (eqb (numberAt s 0 4) y) (eqb (numberAt s 5 2) m) (eqb 1 d && true) ∙ ap (λ (t : Bool). eqb (numberAt s 0 4) y && (eqb (numberAt s 5 2) m && true) && t) (sym low-day))
 
-  month-only : Kept n false false 1 2 (form (bytes "-00") free (at 1) lowest free)
-  unfolding days months dayFits calendarAs shapeOf dateIn
+  month-only : Kept n false false 1 2 (formAt 6)
+  unfolding forms days months hours minutes dayFits calendarAs shapeOf dateIn
   month-only =
       let (a, b, c, e) = small-all in
-      keep false (form (bytes "-00") free (at 1) lowest free) false 1 2 (sep 45 ∷ num 2 m ∷ []) (omega arith) (omega arith) refl refl refl refl refl refl (λ t. absurd (false≢true t)) (b, tt)
+      keep false (formAt 6) false 1 2 (sep 45 ∷ num 2 m ∷ []) (omega arith) (omega arith) refl refl refl refl refl refl (λ t. absurd (false≢true t)) (b, tt)
       (λ s. one-low (eqb (numberAt s 1 2) m) (eqb 1 d && true) ∙ ap (λ (t : Bool). eqb (numberAt s 1 2) m && true && t) (sym low-day))
 
-  year-only : Kept n false false 0 1 (form (bytes "0000") (at 0) lowest lowest free)
-  unfolding days months dayFits calendarAs shapeOf dateIn
+  year-only : Kept n false false 0 1 (formAt 7)
+  unfolding forms days months hours minutes dayFits calendarAs shapeOf dateIn
   year-only =
       let (a, b, c, e) = small-all in
-      keep false (form (bytes "0000") (at 0) lowest lowest free) false 0 1 (num 4 y ∷ []) (omega arith) (omega arith) refl refl refl refl refl refl (λ t. absurd (false≢true t)) (a, tt)
+      keep false (formAt 7) false 0 1 (num 4 y ∷ []) (omega arith) (omega arith) refl refl refl refl refl refl (λ t. absurd (false≢true t)) (a, tt)
       (λ s. one-low (eqb (numberAt s 0 4) y) (eqb 1 m && (eqb 1 d && true)) ∙ ap (λ (t : Bool). eqb (numberAt s 0 4) y && true && t) (sym low-month))
 
   -- ---- a date, shortened: each run of its subfields
@@ -230,13 +229,13 @@ module _ (n : ℕ) (h : n ≤ 3652058) where
   -- ---- a text that wants what the date has
   module _ (c : List ℕ) (f : Form) where
     pub whole-back : find days c ≡ done f → dayFits (calendarAs c f) n ≡ true → DayBack n c true
-    unfolding days
+    unfolding forms days months hours minutes
     whole-back e =
         find-each (λ g. dayFits (calendarAs c g) n ≡ true → DayBack n c true) days c f e
         (back n h full-date c, (back n h from-month c, (back n h from-day c, (back n h full-ordinal c, (back n h from-ordinal c, tt)))))
 
     pub day-back : find (days ++ months) c ≡ done f → dayFits (calendarAs c f) n ≡ true → (w : Bool) × DayBack n c w
-    unfolding days months
+    unfolding forms days months hours minutes
     day-back e =
         find-each (λ g. dayFits (calendarAs c g) n ≡ true → (w : Bool) × DayBack n c w) (days ++ months) c f e
         (λ p q. (true, back n h full-date c p q), (λ p q. (true, back n h from-month c p q), (λ p q. (true, back n h from-day c p q), (λ p q. (true, back n h full-ordinal c p q), (λ p q. (true, back n h from-ordinal c p q), (λ p q. (false, back n h to-month c p q), (λ p q. (false, back n h month-only c p q), (λ p q. (false, back n h year-only c p q), tt))))))))
