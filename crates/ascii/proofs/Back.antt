@@ -1,136 +1,69 @@
 -- A code that was written, read: its shape is right, its layout is the writer's, and its fields are what it was written from.
-use mathlib.Core.Path.{_≡_, refl, _∙_}
-use mathlib.Core.Bool.{Bool, true, false, false≢true}
-use mathlib.Core.List.{List, [], _∷_, _++_, append-nil}
-use Prim.Native.Nat.{ℕ, zero, suc, _+_, _-_, _*_, _/_, _%_, _^_, _<_, _≤_}
+use mathlib.Core.Path.{_≡_, subst, _∙_}
+use mathlib.Core.Bool.{Bool, true, false}
+use mathlib.Core.List.{List}
+use Prim.Native.Nat.{ℕ, zero, suc, _+_, _-_, _^_, _<_, _≤_}
 use native.Mathlib.Omega.{arith}
-use lib.ListN.{length, drop, drop-of-length-le}
-use lib.Seq.{drop-append-add}
 use borrow.Author.Tests.{le-leb}
 use Rattle.base.specs.Outcome.{Outcome, done}
-use Rattle.base.proofs.Bools.{and-true, and-yes}
-use Rattle.octets.specs.Places.{digitValue, decimalOf, digits}
-use Rattle.octets.proofs.Places.{digit-rule, number-append, number-places, places-good}
 use Rattle.calendar.specs.Gregorian.{ordinalOn, dateIn, indexOfDate, indexOfOrdinal, fromEpoch}
 use Rattle.calendar.proofs.Promises.{ordinal-at-done, date-at-done, ordinal-at-back, date-at-back, ordinal-fields, date-fields}
-use Rattle.clock.specs.Clock.{clockOf, minuteOf}
+use Rattle.clock.specs.Clock.{clockOf}
 use Rattle.clock.proofs.Laws.{shown, shown-back}
 use Rattle.moment.specs.Moment.{moment}
+use Rattle.shape.specs.Shapes.{shaped}
+use Rattle.shape.proofs.Pieces.{Agree, Small, agree-spelled}
 use Rattle.ascii.specs.declared.Layout.{Layout}
-use Rattle.ascii.specs.Quoted.{bytes}
-use Rattle.ascii.specs.Shapes.{alike, fits, shaped}
-use Rattle.ascii.specs.Ascii.{frontOf, layoutOf, numberAt, dayAt, clockAt, ticksOf, fieldsOf, lead, dayText, clockText, fractionText, zoneText, codeText}
-use Rattle.ascii.proofs.Shapes.{zeros, dateShape, fractionShape, digits-out, own-shaped}
-use Rattle.ascii.proofs.Texts.{digits-length, day-length}
+use Rattle.ascii.specs.Shapes.{codeShapes}
+use Rattle.ascii.specs.Ascii.{frontOf, layoutOf, numberAt, dayAt, clockAt, ticksOf, fieldsOf, codeText}
+use Rattle.ascii.proofs.Shapes.{lay, tailPieces, codePieces, code-spells, code-shape, own-shaped}
 
 -- ---- the shape of what is written
-fits-append : (p q s t : List ℕ) → fits p s ≡ true → fits q t ≡ true → fits (p ++ q) (s ++ t) ≡ true
-fits-append [] q [] t e f = f
-fits-append [] q (b ∷ s) t e f = absurd (false≢true e)
-fits-append (c ∷ p) q [] t e f = absurd (false≢true e)
-fits-append (c ∷ p) q (b ∷ s) t e f =
-    let (a, g) = and-true (alike c b) (fits p s) e in
-    and-yes _ a ∙ fits-append p q s t g f
+pub code-shaped : (l : Layout) (n x f : ℕ) → l .digits ≤ 12 → (shaped codeShapes (codeText l n x f) ≡ true) × (layoutOf (codeText l n x f) ≡ l)
+code-shaped l n x f h = own-shaped l (codeText l n x f) (le-leb (l .digits) 12 h) (code-shape l n x f)
 
-fits-digits : (w n : ℕ) → fits (zeros w) (digits w n) ≡ true
-fits-digits w n =
-    let none : drop w (digits w n) ≡ [] = drop-of-length-le (digits w n) {i = w} (omega (arith, digits-length w n)) in
-    rw append-nil at (digits-out w [] (digits w n) (omega (arith, digits-length w n)) (places-good digit-rule w n) (rw none))
+-- ---- its numbers
+tail-small : (d : ℕ) (z : Bool) (f : ℕ) → f < 10 ^ d → Small (tailPieces d z f)
+tail-small zero true f h = tt
+tail-small zero false f h = tt
+tail-small (suc d) true f h = (h, tt)
+tail-small (suc d) false f h = (h, tt)
 
-fits-lead : (c w n : ℕ) → alike c c ≡ true → fits (c ∷ zeros w) (lead c w n) ≡ true
-fits-lead c w n e = and-yes _ e ∙ fits-digits w n
+small : (o : Bool) (d : ℕ) (z : Bool) (n x f : ℕ) → n ≤ 3652058 → x ≤ 86400 → f < 10 ^ d → Small (codePieces (lay o d z) n x f)
+small true d z n x f h k i =
+    let (a, b, c, e) = ordinal-fields n (ordinalOn n) (ordinal-at-done n h) in
+    let w = shown x k in
+    (omega arith, (omega arith, (omega (arith, w .hour), (omega (arith, w .minute), (omega (arith, w .second), tail-small d z f i)))))
+small false d z n x f h k i =
+    let (a, b, c, e, g, j) = date-fields n (dateIn (ordinalOn n)) (date-at-done n h) in
+    let w = shown x k in
+    (omega arith, (omega arith, (omega arith, (omega (arith, w .hour), (omega (arith, w .minute), (omega (arith, w .second), tail-small d z f i))))))
 
-day-fits : (o : Bool) (n : ℕ) → fits (dateShape o) (dayText o n) ≡ true
-unfolding dayText
-day-fits true n =
-    let o = ordinalOn n in
-    fits-append (zeros 4) (45 ∷ zeros 3) (digits 4 (o .year)) (lead 45 3 (o .day)) (fits-digits 4 (o .year)) (fits-lead 45 3 (o .day) refl)
-day-fits false n =
-    let d = dateIn (ordinalOn n) in
-    fits-append (zeros 4) ((45 ∷ zeros 2) ++ (45 ∷ zeros 2)) (digits 4 (d .year)) (lead 45 2 (d .month) ++ lead 45 2 (d .day)) (fits-digits 4 (d .year))
-    (fits-append (45 ∷ zeros 2) (45 ∷ zeros 2) (lead 45 2 (d .month)) (lead 45 2 (d .day)) (fits-lead 45 2 (d .month) refl) (fits-lead 45 2 (d .day) refl))
-
-clock-fits : (n : ℕ) → fits (bytes "T00:00:00") (clockText n) ≡ true
-unfolding clockText
-clock-fits n =
-    let m = minuteOf n in
-    fits-append (84 ∷ zeros 2) ((58 ∷ zeros 2) ++ (58 ∷ zeros 2)) (lead 84 2 (m / 60)) (lead 58 2 (m % 60) ++ lead 58 2 (n - m * 60)) (fits-lead 84 2 (m / 60) refl)
-    (fits-append (58 ∷ zeros 2) (58 ∷ zeros 2) (lead 58 2 (m % 60)) (lead 58 2 (n - m * 60)) (fits-lead 58 2 (m % 60) refl) (fits-lead 58 2 (n - m * 60) refl))
-
-fraction-fits : (d f : ℕ) → fits (fractionShape d) (fractionText d f) ≡ true
-fraction-fits zero f = refl
-fraction-fits (suc d) f = fits-lead 46 (suc d) f refl
-
-zone-fits : (z : Bool) → fits (zoneText z) (zoneText z) ≡ true
-zone-fits true = refl
-zone-fits false = refl
-
-pub code-shaped : (l : Layout) (n x f : ℕ) → l .digits ≤ 12 → (shaped (codeText l n x f) ≡ true) × (layoutOf (codeText l n x f) ≡ l)
-unfolding codeText
-code-shaped l n x f h =
-    let d = fractionShape (l .digits) in
-    let z = zoneText (l .zone) in
-    let g = fractionText (l .digits) f in
-    own-shaped l (dayText (l .ordinal) n ++ (clockText x ++ (g ++ z))) (le-leb (l .digits) 12 h)
-    (fits-append (dateShape (l .ordinal)) (bytes "T00:00:00" ++ (d ++ z)) (dayText (l .ordinal) n) (clockText x ++ (g ++ z)) (day-fits (l .ordinal) n)
-    (fits-append (bytes "T00:00:00") (d ++ z) (clockText x) (g ++ z) (clock-fits x)
-    (fits-append d z g z (fraction-fits (l .digits) f) (zone-fits (l .zone)))))
-
--- ---- numbers that were written
-first-number : (w n : ℕ) (q : List ℕ) → n < 10 ^ w → decimalOf (digits w n ++ q) w ≡ n
-first-number w n q h =
-    number-append 10 digitValue (digits w n) q w (omega (arith, digits-length w n)) ∙ number-places digit-rule w n h
-
--- past a text
-past-number : (p q : List ℕ) (k w at : ℕ) → at ≡ length p + k → numberAt (p ++ q) at w ≡ numberAt q k w
-past-number p q k w at e = rw (e, drop-append-add p q k)
-
--- ---- the day
+-- ---- its fields
 two : (f : ℕ → ℕ → Outcome ℕ) {a b c d : ℕ} → a ≡ b → c ≡ d → f a c ≡ f b d
 two f p q = rw (p, q)
 
 three : (f : ℕ → ℕ → ℕ → Outcome ℕ) {a b c d x y : ℕ} → a ≡ b → c ≡ d → x ≡ y → f a c x ≡ f b d y
 three f p q r = rw (p, q, r)
 
-day-back : (o : Bool) (n : ℕ) (r : List ℕ) → n ≤ 3652058 → dayAt o (dayText o n ++ r) ≡ done n
-unfolding dayAt dayText
-day-back true n r h =
-    let t = ordinalOn n in
-    let e = ordinal-at-done n h in
-    let (a, b, c, d) = ordinal-fields n t e in
-    two indexOfOrdinal (first-number 4 (t .year) (lead 45 3 (t .day) ++ r) (omega arith)) (first-number 3 (t .day) r (omega arith)) ∙ ordinal-at-back n t e
-day-back false n r h =
-    let t = dateIn (ordinalOn n) in
-    let e = date-at-done n h in
-    let (a, b, c, d, i, j) = date-fields n t e in
-    three indexOfDate (first-number 4 (t .year) (lead 45 2 (t .month) ++ (lead 45 2 (t .day) ++ r)) (omega arith)) (first-number 2 (t .month) (lead 45 2 (t .day) ++ r) (omega arith)) (first-number 2 (t .day) r (omega arith)) ∙ date-at-back n t e
+tail-back : (s : List ℕ) (d : ℕ) (z : Bool) (f at : ℕ) → f < 10 ^ d → Agree at s (tailPieces d z f) → numberAt s (at + 1) d ≡ f
+tail-back s zero z f at h e = omega arith
+tail-back s (suc d) z f at h e = e .0
 
--- ---- the clock
-clock-back : (p q : List ℕ) (n t : ℕ) → n ≤ 86400 → t ≡ length p + 1 → clockAt (p ++ (clockText n ++ q)) t ≡ done n
-unfolding clockAt clockText
-clock-back p q n t h e =
-    let m = minuteOf n in
-    let w = shown n h in
-    let a = lead 58 2 (m % 60) in
-    let b = lead 58 2 (n - m * 60) in
-    three clockOf
-    (past-number p (lead 84 2 (m / 60) ++ (a ++ b) ++ q) 1 2 t e ∙ first-number 2 (m / 60) (a ++ (b ++ q)) (omega (arith, w .hour)))
-    (past-number p (lead 84 2 (m / 60) ++ (a ++ b) ++ q) 4 2 (t + 3) (omega arith) ∙ first-number 2 (m % 60) (b ++ q) (omega (arith, w .minute)))
-    (past-number p (lead 84 2 (m / 60) ++ (a ++ b) ++ q) 7 2 (t + 6) (omega arith) ∙ first-number 2 (n - m * 60) q (omega (arith, w .second)))
-    ∙ shown-back n h
+module _ (s : List ℕ) (d : ℕ) (z : Bool) (n x f : ℕ) (h : n ≤ 3652058) (k : x ≤ 86400) (i : f < 10 ^ d) where
+  parts-back : (o : Bool) → Agree 0 s (codePieces (lay o d z) n x f) → (dayAt o s ≡ done n) × (clockAt s (frontOf o - 8) ≡ done x) × (numberAt s (frontOf o + 1) d ≡ f)
+  unfolding dayAt clockAt
+  parts-back true (a, (b, (p, (q, (r, e))))) =
+      let t = ordinalOn n in
+      (two indexOfOrdinal a b ∙ ordinal-at-back n t (ordinal-at-done n h), three clockOf p q r ∙ shown-back x k, tail-back s d z f 17 i e)
+  parts-back false (a, (b, (c, (p, (q, (r, e)))))) =
+      let t = dateIn (ordinalOn n) in
+      (three indexOfDate a b c ∙ date-at-back n t (date-at-done n h), three clockOf p q r ∙ shown-back x k, tail-back s d z f 19 i e)
 
--- ---- the fraction
-part-back : (p z : List ℕ) (n d f t : ℕ) → f < 10 ^ d → t ≡ length p + 10 → numberAt (p ++ (clockText n ++ (fractionText d f ++ z))) t d ≡ f
-unfolding clockText
-part-back p z n zero f t h e = omega arith
-part-back p z n (suc d) f t h e = past-number p (clockText n ++ (lead 46 (suc d) f ++ z)) 10 (suc d) t e ∙ first-number (suc d) f z h
-
--- ---- all fields
 pub fields-back : (l : Layout) (n x f : ℕ) → n ≤ 3652058 → x ≤ 86400 → f < 10 ^ (l .digits) → fieldsOf l (codeText l n x f) ≡ done (moment (fromEpoch n) x (ticksOf (l .digits) f))
-unfolding fieldsOf codeText
+unfolding fieldsOf
 fields-back l n x f h k i =
-    let p = dayText (l .ordinal) n in
-    let r = fractionText (l .digits) f ++ zoneText (l .zone) in
-    let e : frontOf (l .ordinal) - 8 ≡ length p + 1 = omega (arith, day-length (l .ordinal) n) in
-    let e' : frontOf (l .ordinal) + 1 ≡ length p + 10 = omega (arith, day-length (l .ordinal) n) in
-    rw (day-back (l .ordinal) n (clockText x ++ r) h, clock-back p r x (frontOf (l .ordinal) - 8) k e, part-back p (zoneText (l .zone)) x (l .digits) f (frontOf (l .ordinal) + 1) i e')
+    let ps = codePieces l n x f in
+    let e = agree-spelled ps (small (l .ordinal) (l .digits) (l .zone) n x f h k i) in
+    let (a, b, c) = parts-back (codeText l n x f) (l .digits) (l .zone) n x f h k i (l .ordinal) (subst (λ (s : List ℕ). Agree 0 s ps) (code-spells l n x f) e) in
+    rw (a, b, c)

@@ -9,14 +9,15 @@ use Rattle.base.specs.Parts.{within}
 use Rattle.scale.specs.Time.{perSecond}
 use Rattle.calendar.specs.Gregorian.{kind, yearStart, yearsTo, row, monthLength, isDate, isOrdinal, dayIndex, ordinalOn, dateIn, indexOfDate, indexOfOrdinal, indexOfDay}
 use Rattle.moment.specs.Moment.{moment, isMoment}
-use Rattle.ascii.specs.Quoted.{bytes}
-use Rattle.ascii.specs.Shapes.{shapes, shaped}
+use Rattle.shape.specs.Quoted.{bytes}
+use Rattle.shape.specs.Shapes.{shapeOf, shaped}
+use Rattle.ascii.specs.Shapes.{codeShapes}
 use Rattle.ascii.specs.Ascii.{width, layoutOf, dayAt, clockAt, fieldsOf, text, dayText, clockText, codeText, bytesOf}
 use Rattle.ascii.proofs.Shapes.{lay}
 
 -- a picosecond of 23:59:60; the first second of the calendar; 23:59:60 of a day that no table has
 read-times : (text (bytes "2016-366T23:59:60.000000000001Z") ≡ done (moment (pos 21549) 86400 4096)) × (text (bytes "0001-01-01T00:00:00") ≡ done (moment (negsuc 714778) 0 0)) × (text (bytes "9999-12-31T23:59:60") ≡ done (moment (pos 2937279) 86400 0))
-unfolding text fieldsOf dayAt clockAt layoutOf shaped shapes indexOfDate indexOfOrdinal isDate isOrdinal monthLength dayIndex yearStart kind row
+unfolding text fieldsOf dayAt clockAt layoutOf shaped shapeOf codeShapes indexOfDate indexOfOrdinal isDate isOrdinal monthLength dayIndex yearStart kind row
 read-times = (refl, refl, refl)
 
 -- 1: empty. 4: 13 digits; a period and no digit; a lower-case z; a blank; a byte after Z; year 0; day 366 of an ordinary year; a slash
@@ -33,7 +34,7 @@ wrong =
     bytes "2016-12/31T12:00:00" ∷ []
 
 refuse-wrong : map text wrong ≡ refused 1 ∷ refused 4 ∷ refused 4 ∷ refused 4 ∷ refused 4 ∷ refused 4 ∷ refused 4 ∷ refused 4 ∷ refused 4 ∷ []
-unfolding wrong text fieldsOf dayAt clockAt layoutOf shaped shapes indexOfDate indexOfOrdinal isDate isOrdinal monthLength dayIndex yearStart kind row
+unfolding wrong text fieldsOf dayAt clockAt layoutOf shaped shapeOf codeShapes indexOfDate indexOfOrdinal isDate isOrdinal monthLength dayIndex yearStart kind row
 refuse-wrong = refl
 
 -- the last tick of a second is not rounded up; 23:59:60 in both forms

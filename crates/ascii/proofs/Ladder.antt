@@ -17,31 +17,32 @@ use Rattle.calendar.specs.Gregorian.{fromEpoch, indexOfDay}
 use Rattle.calendar.proofs.Numbers.{number-at, number-of-index}
 use Rattle.moment.specs.Moment.{moment, isMoment}
 use Rattle.moment.specs.declared.Moment.{Moment}
+use Rattle.shape.specs.Shapes.{shaped}
+use Rattle.shape.proofs.Tests.{fails}
 use Rattle.ascii.specs.declared.Layout.{Layout}
-use Rattle.ascii.specs.Shapes.{shaped}
+use Rattle.ascii.specs.Shapes.{codeShapes}
 use Rattle.ascii.specs.Ascii.{isLayout, frontOf, width, layoutOf, numberAt, dayAt, clockAt, ticksOf, fieldsOf, text, codeText, partOf, bytesOf}
 use Rattle.ascii.specs.Inner.{figures, separators, Placed}
 use Rattle.ascii.proofs.Shapes.{shaped-right, right-shaped}
 use Rattle.ascii.proofs.Sizes.{front-in, placed-width}
-use Rattle.ascii.proofs.Reading.{fails}
 
 -- ---- what makes a shape wrong
 module _ (s : List ℕ) where
-  pub too-short : length s < 17 → shaped s ≡ false
-  too-short h = fails (shaped s) (λ e. omega (arith, shaped-right s e .0 .size, front-in (layoutOf s .ordinal)))
+  pub too-short : length s < 17 → shaped codeShapes s ≡ false
+  too-short h = fails (shaped codeShapes s) (λ e. omega (arith, shaped-right s e .0 .size, front-in (layoutOf s .ordinal)))
 
-  pub other-length : (width (layoutOf s) ≡ length s → ⊥) → shaped s ≡ false
-  other-length f = fails (shaped s) (λ e. f (placed-width (layoutOf s) (length s) (shaped-right s e .0)))
+  pub other-length : (width (layoutOf s) ≡ length s → ⊥) → shaped codeShapes s ≡ false
+  other-length f = fails (shaped codeShapes s) (λ e. f (placed-width (layoutOf s) (length s) (shaped-right s e .0)))
 
-  pub other-marks : separators (layoutOf s) s ≡ false → shaped s ≡ false
-  other-marks f = fails (shaped s) (λ e. never-both (shaped-right s e .1 .seps) f)
+  pub other-marks : separators (layoutOf s) s ≡ false → shaped codeShapes s ≡ false
+  other-marks f = fails (shaped codeShapes s) (λ e. never-both (shaped-right s e .1 .seps) f)
 
-  pub no-figures : figures (layoutOf s) s ≡ false → shaped s ≡ false
-  no-figures f = fails (shaped s) (λ e. never-both (shaped-right s e .1 .figs) f)
+  pub no-figures : figures (layoutOf s) s ≡ false → shaped codeShapes s ≡ false
+  no-figures f = fails (shaped codeShapes s) (λ e. never-both (shaped-right s e .1 .figs) f)
 
   -- where its length and separators are right, its digits decide
-  pub only-figures : Placed (layoutOf s) (length s) → separators (layoutOf s) s ≡ true → figures (layoutOf s) s ≡ shaped s
-  only-figures p q = by-two (figures (layoutOf s) s) (shaped s) (λ f. right-shaped s p q f) no-figures
+  pub only-figures : Placed (layoutOf s) (length s) → separators (layoutOf s) s ≡ true → figures (layoutOf s) s ≡ shaped codeShapes s
+  only-figures p q = by-two (figures (layoutOf s) s) (shaped codeShapes s) (λ f. right-shaped s p q f) no-figures
 
   -- ---- what reading answers then
   pub text-empty : length s < 1 → text s ≡ refused 1
@@ -49,7 +50,7 @@ module _ (s : List ℕ) where
   text-empty h = need-no 1 _ (lt-leb 1 (length s) h)
 
   module _ (h : 1 ≤ length s) where
-    pub text-wrong : shaped s ≡ false → text s ≡ refused 4
+    pub text-wrong : shaped codeShapes s ≡ false → text s ≡ refused 4
     unfolding text
     text-wrong e = need-yes 1 _ (le-leb 1 (length s) h) ∙ need-no 4 _ e
 
@@ -57,7 +58,7 @@ module _ (s : List ℕ) where
     unfolding text
     text-fields p q = rw (only-figures p q) (sym (need-yes 1 _ (le-leb 1 (length s) h)))
 
-    pub text-shaped : shaped s ≡ true → text s ≡ fieldsOf (layoutOf s) s
+    pub text-shaped : shaped codeShapes s ≡ true → text s ≡ fieldsOf (layoutOf s) s
     unfolding text
     text-shaped e = need-yes 1 _ (le-leb 1 (length s) h) ∙ need-yes 4 _ e
 
@@ -65,7 +66,7 @@ module _ (s : List ℕ) where
 pub record Told (s : List ℕ) (m : Moment) : Type 0 where
   pub day : ℕ
   pub second : ℕ
-  pub right : shaped s ≡ true
+  pub right : shaped codeShapes s ≡ true
   pub dated : dayAt (layoutOf s .ordinal) s ≡ done day
   pub clocked : clockAt s (frontOf (layoutOf s .ordinal) - 8) ≡ done second
   pub is : moment (fromEpoch day) second (ticksOf (layoutOf s .digits) (numberAt s (frontOf (layoutOf s .ordinal) + 1) (layoutOf s .digits))) ≡ m
@@ -75,7 +76,7 @@ unfolding text fieldsOf
 told s m e =
     let l = layoutOf s in
     let (a, b) = need-done (leb 1 (length s)) 1 _ m e in
-    let (r, c) = need-done (shaped s) 4 _ m b in
+    let (r, c) = need-done (shaped codeShapes s) 4 _ m b in
     let (n, (i, j)) = then-done (dayAt (l .ordinal) s) _ m c in
     let (k, (p, q)) = then-done (clockAt s (frontOf (l .ordinal) - 8)) _ m j in
     record { day = n; second = k; right = r; dated = i; clocked = p; is = done-is _ m q }

@@ -46,7 +46,7 @@ read-written s m e =
     bytes-by l m (le-leb (l .digits) 12 (p .few)) (read-valid s m e) (done (w .day)) i
     ∙ ap (λ (x : Moment). done (codeText l (w .day) (x .second) (partOf (l .digits) (x .ticks)))) (sym (w .is))
     ∙ ap (λ (n : ℕ). done (codeText l (w .day) (w .second) n)) (F.part-ticks (grain (l .digits) (p .few)) f)
-    ∙ ap done (code-again l s (w .day) (w .second) p r (w .dated) (w .clocked))
+    ∙ ap done (code-again l s (w .day) (w .second) r (w .dated) (w .clocked))
 
 -- so two texts of one layout that read alike are one
 pub one-text : (s s' : List ℕ) (m : Moment) → text s ≡ done m → text s' ≡ done m → layoutOf s ≡ layoutOf s' → s ≡ s'

@@ -26,6 +26,7 @@ use Rattle.calendar.proofs.Rows.{length-in}
 use Rattle.calendar.proofs.Dates.{GoodDate, GoodOrdinal, good-date, good-ordinal}
 use Rattle.clock.specs.Clock.{clockOk, secondOfDay, clockOf}
 use Rattle.moment.specs.Moment.{moment}
+use Rattle.shape.proofs.Tests.{fails}
 use Rattle.ascii.specs.declared.Layout.{Layout}
 use Rattle.ascii.specs.Ascii.{frontOf, numberAt, dayAt, clockAt, ticksOf, fieldsOf}
 use Rattle.ascii.specs.Inner.{figuresAt, readAs, dateFigures, clockFigures, figures}
@@ -50,11 +51,6 @@ module _ (s : List ℕ) (at w : ℕ) where
   field-out h l e = absurd (let z : ⊥ = omega (arith, told-short 10 digitValue digitGood 19 s at w (omega arith) e) in z)
 
 -- ---- dates
--- a test that can't hold fails
-pub fails : (b : Bool) → (b ≡ true → ⊥) → b ≡ false
-fails true f = absurd (f refl)
-fails false f = refl
-
 no-ordinal : (y d : ℕ) → (GoodOrdinal y d → ⊥) → indexOfOrdinal y d ≡ refused 4
 unfolding indexOfOrdinal
 no-ordinal y d f = need-no 4 _ (fails (isOrdinal y d) (λ e. f (good-ordinal y d e)))

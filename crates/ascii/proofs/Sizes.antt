@@ -5,10 +5,11 @@ use mathlib.Core.List.{List}
 use Prim.Native.Nat.{ℕ, _+_, _-_, _<_, _≤_}
 use native.Mathlib.Omega.{arith}
 use lib.Dec.{eqb, leb}
+use lib.ListN.{length}
 use borrow.Author.Tests.{eq-eqb, ne-eqb, le-leb, lt-leb, leb-true, leb-false}
 use Rattle.base.proofs.Bools.{cond-yes, cond-no}
 use Rattle.ascii.specs.declared.Layout.{Layout}
-use Rattle.ascii.specs.Ascii.{frontOf, partSize, bit, width}
+use Rattle.ascii.specs.Ascii.{frontOf, partSize, bit, width, zoneText}
 use Rattle.ascii.specs.Inner.{marked, separators, Placed}
 
 pub part-none : (d : ℕ) → d ≡ 0 → 0 ≡ partSize d
@@ -24,6 +25,10 @@ front-in false = (omega arith, omega arith)
 pub bit-le : (z : Bool) → bit z ≤ 1
 bit-le true = omega arith
 bit-le false = omega arith
+
+pub zone-length : (z : Bool) → length (zoneText z) ≡ bit z
+zone-length true = refl
+zone-length false = refl
 
 pub part-le : (d : ℕ) → d ≤ 12 → partSize d ≤ 13
 part-le d h = go (eqb d 0)

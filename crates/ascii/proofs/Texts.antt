@@ -17,8 +17,7 @@ use Rattle.calendar.specs.declared.Date.{Date}
 use Rattle.clock.specs.Clock.{minuteOf}
 use Rattle.ascii.specs.declared.Layout.{Layout}
 use Rattle.ascii.specs.Ascii.{frontOf, partSize, bit, width, lead, dayText, clockText, fractionText, zoneText, codeText}
-use Rattle.ascii.proofs.Shapes.{zone-length}
-use Rattle.ascii.proofs.Sizes.{width-of}
+use Rattle.ascii.proofs.Sizes.{width-of, zone-length}
 
 -- ---- lengths
 pub digits-length : (w n : ℕ) → length (digits w n) ≡ w

@@ -12,7 +12,8 @@ use Rattle.calendar.specs.Gregorian.{ordinalOn, dateIn, indexOfDate, indexOfOrd
 use Rattle.clock.specs.Clock.{clockOf, minuteOf}
 use Rattle.moment.specs.Moment.{moment, isMoment}
 use Rattle.moment.specs.declared.Moment.{Moment}
-use Rattle.ascii.specs.Shapes.{shaped}
+use Rattle.shape.specs.Shapes.{shaped}
+use Rattle.ascii.specs.Shapes.{codeShapes}
 use Rattle.ascii.specs.declared.Layout.{Layout}
 
 -- ---- layouts: "ASCII A or B, digits 0 to 12, Z or none"
@@ -69,7 +70,7 @@ fieldsOf l s =
 
 -- "ASCII is empty" 1; "a field .. character or length breaks its rule" 4, the shape before the ranges. 5 and 6 are judged above, by a table
 unfoldable pub text : List ℕ → Outcome Moment
-text s = need (leb 1 (length s)) 1 (need (shaped s) 4 (fieldsOf (layoutOf s) s))
+text s = need (leb 1 (length s)) 1 (need (shaped codeShapes s) 4 (fieldsOf (layoutOf s) s))
 
 -- ---- writing
 -- a character and w digits

@@ -1,4 +1,4 @@
--- What the private functions ask and answer: the tests of a shape, made directly. No promise cites these; proofs/Shapes says that together they are `shaped`.
+-- What the private functions ask and answer: the tests of a shape, made directly. No promise cites these; proofs/Shapes says that together they are `shaped codeShapes`.
 use mathlib.Core.Path.{_≡_}
 use mathlib.Core.Bool.{Bool, true, false, cond, _&&_, _||_}
 use mathlib.Core.List.{List}

@@ -1,5 +1,3 @@
-pub mod Cells
-pub mod Quoted
 pub mod Shapes
 pub mod Ascii
 pub mod Inner

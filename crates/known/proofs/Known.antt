@@ -18,7 +18,8 @@ use Rattle.counter.specs.Counter.{names}
 use Rattle.cuc.specs.Cuc as U
 use Rattle.cds.specs.Cds as D
 use Rattle.ccs.specs.Ccs as C
-use Rattle.ascii.specs.Shapes.{shapes, shaped}
+use Rattle.shape.specs.Shapes.{shapeOf, shaped}
+use Rattle.ascii.specs.Shapes.{codeShapes}
 use Rattle.ascii.specs.Ascii as A
 use Rattle.pfield.specs.PField.{allows, laid, laidAs, cucLaid, cdsLaid, ccsLaid, headedOf}
 use Rattle.codes.specs.Reading.{scanIn, scanOf}
@@ -37,7 +38,7 @@ unfolding table
     isMoment timeOf momentOf letters
     D.isWidth D.width D.momentBy D.field D.held D.inOctets D.bytesOf
     C.width C.dayAt C.clockAt C.field C.dateText C.clockText C.bytesOf
-    shapes shaped A.layoutOf A.dayAt A.clockAt A.fieldsOf A.text A.dayText A.clockText A.codeText A.bytesOf
+    shaped shapeOf codeShapes A.layoutOf A.dayAt A.clockAt A.fieldsOf A.text A.dayText A.clockText A.codeText A.bytesOf
     allows laid laidAs cucLaid cdsLaid ccsLaid headedOf scanIn scanOf writeOf
     listed listFilled firstSecond names namedIn filter consIf range up startAt momentsIn tagWith tagIn periodicOf listPeriodic listCuc
 known-times = refl

@@ -8,7 +8,7 @@ use Rattle.base.specs.Outcome.{Outcome, done, refused, given}
 use Rattle.scale.specs.Time.{Time, perSecond}
 use Rattle.octets.specs.Writes.{endOf, filled}
 use Rattle.window.specs.Window.{Named, Listed, listed, leaves}
-use Rattle.ascii.specs.Quoted.{bytes}
+use Rattle.shape.specs.Quoted.{bytes}
 use Rattle.leap.specs.Builtin.{builtin}
 use Rattle.codes.specs.Text.{textOf}
 use Rattle.codes.specs.Reading.{Scanned, scanOf}

@@ -21,7 +21,7 @@ use Rattle.octets.specs.declared.Written.the-variants.{Done, Refused}
 use Rattle.octets.proofs.Places.{length-places}
 use Rattle.octets.proofs.Writes.{room-in}
 use Rattle.octets.proofs.Pastes.{length-pasted, paste-one, then, stored}
-use Rattle.ascii.specs.Quoted.{bytes}
+use Rattle.shape.specs.Quoted.{bytes}
 use Rattle.ascii.specs.Ascii.{width}
 use Rattle.leap.specs.Builtin.{builtin}
 use Rattle.codes.specs.Text.{textOf, letters}

@@ -6,7 +6,7 @@ use lib.Dec.{leb, ltb}
 use lib.ListN.{length}
 use Rattle.base.specs.Outcome.{Outcome, done, refused, need, andThen}
 use Rattle.octets.specs.Places.{digits}
-use Rattle.ascii.specs.Quoted.{bytes}
+use Rattle.shape.specs.Quoted.{bytes}
 use Rattle.leap.specs.Table.{Table}
 use Rattle.codes.specs.Text.{textOf, letters}
 use Rattle.codes.specs.Setting.{defaultLayout}

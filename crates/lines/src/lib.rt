@@ -15,7 +15,7 @@ ghost use Rattle.leap.specs.Builtin.{builtin};
 ghost use Rattle.codes.specs.Text.{letters};
 ghost use Rattle.codes.specs.Setting.{defaultLayout};
 ghost use Rattle.octets.specs.Places.{digits};
-ghost use Rattle.ascii.specs.Quoted.{bytes};
+ghost use Rattle.shape.specs.Quoted.{bytes};
 ghost use Rattle.lines.specs.Answer.{figures, printed, answerOf};
 ghost use Rattle.lines.specs.Split.{before, fate, after, kept, ending};
 ghost use Rattle.lines.specs.Says.{lineOf, heldOf, Fares, Ends};

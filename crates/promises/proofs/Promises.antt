@@ -20,7 +20,7 @@ use Rattle.leap.specs.Builtin.{builtin}
 use Rattle.leap.specs.declared.Row.{Row}
 use Rattle.utc.specs.Reckoning.{reckons}
 use Rattle.utc.proofs.Laws.{table-good}
-use Rattle.ascii.specs.Quoted.{bytes}
+use Rattle.shape.specs.Quoted.{bytes}
 use Rattle.ascii.specs.Ascii.{isLayout, clockText, codeText}
 use Rattle.ascii.specs.declared.Layout.{Layout}
 use Rattle.pfield.specs.PField.{laid}

@@ -23,8 +23,9 @@ use Rattle.utc.proofs.Builtin.{builtin-reckons}
 use Rattle.cuc.specs.Cuc as U
 use Rattle.cds.specs.Cds as D
 use Rattle.ccs.specs.Ccs as C
-use Rattle.ascii.specs.Quoted.{bytes}
-use Rattle.ascii.specs.Shapes.{shapes, shaped}
+use Rattle.shape.specs.Quoted.{bytes}
+use Rattle.shape.specs.Shapes.{shapeOf, shaped}
+use Rattle.ascii.specs.Shapes.{codeShapes}
 use Rattle.ascii.specs.Ascii as A
 use Rattle.ascii.specs.declared.Layout.{Layout}
 use Rattle.pfield.specs.PField.{octet, headedOf, allows, laidAs, laid, cucLaid, cdsLaid, ccsLaid}
@@ -99,11 +100,11 @@ unfolding good within allows laid laidAs cucLaid cdsLaid ccsLaid headedOf scanIn
 ccs-apart = record { ready = record { source = refl; settings = (_, refl); room = lit≤ tt }; written-as = refl; own = tt; reads = refl }
 
 ascii-a : Witness (letters false 3 true) (bytes "2016-12-31T23:59:60.000Z")
-unfolding good within roomed A.width A.layoutOf A.dayAt A.clockAt A.fieldsOf A.text A.dayText A.clockText A.codeText A.bytesOf lettersOf shaped shapes timeOf momentOf isMoment L.utcOfSecond L.readingOf L.liftedBy L.secondOfUtc L.secondOf readingAt coversSecond dayHolding secondAt covers dayLength start offset builtin kind yearStart yearsTo row monthLength isDate isOrdinal dayIndex ordinalOn dateIn indexOfDate indexOfOrdinal indexOfDay ordinalAt
+unfolding good within roomed A.width A.layoutOf A.dayAt A.clockAt A.fieldsOf A.text A.dayText A.clockText A.codeText A.bytesOf lettersOf shaped shapeOf codeShapes timeOf momentOf isMoment L.utcOfSecond L.readingOf L.liftedBy L.secondOfUtc L.secondOf readingAt coversSecond dayHolding secondAt covers dayLength start offset builtin kind yearStart yearsTo row monthLength isDate isOrdinal dayIndex ordinalOn dateIn indexOfDate indexOfOrdinal indexOfDay ordinalAt
 ascii-a = record { ready = record { source = refl; settings = refl; room = lit≤ tt }; written-as = refl; own = refl; reads = refl }
 
 ascii-b : Witness (letters true 0 false) (bytes "2016-366T23:59:60")
-unfolding good within roomed A.width A.layoutOf A.dayAt A.clockAt A.fieldsOf A.text A.dayText A.clockText A.codeText A.bytesOf lettersOf shaped shapes timeOf momentOf isMoment L.utcOfSecond L.readingOf L.liftedBy L.secondOfUtc L.secondOf readingAt coversSecond dayHolding secondAt covers dayLength start offset builtin kind yearStart yearsTo row monthLength isDate isOrdinal dayIndex ordinalOn dateIn indexOfDate indexOfOrdinal indexOfDay ordinalAt
+unfolding good within roomed A.width A.layoutOf A.dayAt A.clockAt A.fieldsOf A.text A.dayText A.clockText A.codeText A.bytesOf lettersOf shaped shapeOf codeShapes timeOf momentOf isMoment L.utcOfSecond L.readingOf L.liftedBy L.secondOfUtc L.secondOf readingAt coversSecond dayHolding secondAt covers dayLength start offset builtin kind yearStart yearsTo row monthLength isDate isOrdinal dayIndex ordinalOn dateIn indexOfDate indexOfOrdinal indexOfDay ordinalAt
 ascii-b = record { ready = record { source = refl; settings = refl; room = lit≤ tt }; written-as = refl; own = refl; reads = refl }
 
 -- so the target holds the source, and the code yields the latest time
@@ -136,7 +137,7 @@ abbrev early : Time
 early = time (pos 441763209) 0
 
 outside : Refusing (Binary (octet 0x10) (pos 0) true) leap 7 × Refusing (Binary (octet 0x48) (pos 21550) true) leap 7 × Refusing (Binary (octet 0x40) (pos 0) true) early 5 × Refusing (Binary (octet 0x50) (pos 0) true) early 5 × Refusing (letters true 0 false) early 5
-unfolding good within allows laid laidAs cucLaid cdsLaid ccsLaid headedOf scanIn scanOf writeOf roomed countOf U.isWidth U.width U.field U.holds U.inOctets U.bytesOf D.isWidth D.width D.momentBy D.field D.held D.inOctets D.bytesOf C.width C.dayAt C.clockAt C.field C.dateText C.clockText C.bytesOf A.width A.layoutOf A.dayAt A.clockAt A.fieldsOf A.text A.dayText A.clockText A.codeText A.bytesOf lettersOf shaped shapes timeOf momentOf isMoment L.utcOfSecond L.readingOf L.liftedBy L.secondOfUtc L.secondOf readingAt coversSecond dayHolding secondAt covers dayLength start offset builtin kind yearStart yearsTo row monthLength isDate isOrdinal dayIndex ordinalOn dateIn indexOfDate indexOfOrdinal indexOfDay ordinalAt
+unfolding good within allows laid laidAs cucLaid cdsLaid ccsLaid headedOf scanIn scanOf writeOf roomed countOf U.isWidth U.width U.field U.holds U.inOctets U.bytesOf D.isWidth D.width D.momentBy D.field D.held D.inOctets D.bytesOf C.width C.dayAt C.clockAt C.field C.dateText C.clockText C.bytesOf A.width A.layoutOf A.dayAt A.clockAt A.fieldsOf A.text A.dayText A.clockText A.codeText A.bytesOf lettersOf shaped shapeOf codeShapes timeOf momentOf isMoment L.utcOfSecond L.readingOf L.liftedBy L.secondOfUtc L.secondOf readingAt coversSecond dayHolding secondAt covers dayLength start offset builtin kind yearStart yearsTo row monthLength isDate isOrdinal dayIndex ordinalOn dateIn indexOfDate indexOfOrdinal indexOfDay ordinalAt
 outside = (
   record { ready = record { source = refl; settings = (_, refl); room = lit≤ tt }; refuses = refl },
   record { ready = record { source = refl; settings = (_, refl); room = lit≤ tt }; refuses = refl },
@@ -170,7 +171,7 @@ results : answers
     ∷ P.readBinary (0x1c ∷ 0x6e ∷ 0xfa ∷ 0xa5 ∷ 0x24 ∷ []) true 0 (pos 0) ∷ P.writeBinary leap true 0x1c (pos 0) room ∷ P.readAscii (bytes "2016-12-31T23:59:60") ∷ P.writeAscii leap (layout 12) room ∷ P.writeWall leap room
     ∷ P.listCuc (16 ∷ 0 ∷ []) true 0 (pos 0) (time (pos 0) 0) (time (pos 9) 0) ∷ P.listAscii (bytes "::60") leap leap ∷ [])
     ≡ replicate 15 0
-unfolding good within allows laid laidAs cucLaid cdsLaid ccsLaid headedOf scanIn scanOf writeOf roomed countOf U.isWidth U.width U.field U.holds U.inOctets U.bytesOf A.width A.layoutOf A.dayAt A.clockAt A.fieldsOf A.text A.dayText A.clockText A.codeText A.bytesOf lettersOf shaped shapes timeOf momentOf isMoment L.utcOfSecond L.readingOf L.liftedBy L.secondOfUtc L.secondOf readingAt coversSecond dayHolding secondAt covers dayLength start offset builtin kind yearStart yearsTo row monthLength isDate isOrdinal dayIndex ordinalOn dateIn indexOfDate indexOfOrdinal indexOfDay ordinalAt K.tagWith K.tagIn K.periodicOf K.listPeriodic K.listCuc startAt momentsIn firstSecond counted namedIn filter consIf range up calendarAs clockAs unzoned timeIn alone joined formed goodDay goodClock tagOf names dayFits clockFits AsciiTag.covered AsciiTag.listWanted AsciiTag.listAscii shapeOf days months hours minutes
+unfolding good within allows laid laidAs cucLaid cdsLaid ccsLaid headedOf scanIn scanOf writeOf roomed countOf U.isWidth U.width U.field U.holds U.inOctets U.bytesOf A.width A.layoutOf A.dayAt A.clockAt A.fieldsOf A.text A.dayText A.clockText A.codeText A.bytesOf lettersOf shaped shapeOf codeShapes timeOf momentOf isMoment L.utcOfSecond L.readingOf L.liftedBy L.secondOfUtc L.secondOf readingAt coversSecond dayHolding secondAt covers dayLength start offset builtin kind yearStart yearsTo row monthLength isDate isOrdinal dayIndex ordinalOn dateIn indexOfDate indexOfOrdinal indexOfDay ordinalAt K.tagWith K.tagIn K.periodicOf K.listPeriodic K.listCuc startAt momentsIn firstSecond counted namedIn filter consIf range up calendarAs clockAs unzoned timeIn alone joined formed goodDay goodClock tagOf names dayFits clockFits AsciiTag.covered AsciiTag.listWanted AsciiTag.listAscii shapeOf days months hours minutes
 results = refl
 
 refusals : answers
@@ -178,5 +179,5 @@ refusals : answers
     ∷ P.readBinary (0x1c ∷ 0x6e ∷ []) true 0 (pos 0) ∷ P.writeBinary leap true 0x60 (pos 0) room ∷ P.readAscii (bytes "2016-12-31T12:00:60") ∷ P.writeAscii leap (layout 13) room ∷ P.writeWall leap (7 ∷ [])
     ∷ P.listCuc (16 ∷ 0 ∷ []) true 0 (pos 0) (time (pos 9) 0) (time (pos 0) 0) ∷ P.listAscii (bytes "::60") early leap ∷ [])
     ≡ 7 ∷ 7 ∷ 4 ∷ 7 ∷ 4 ∷ 7 ∷ 5 ∷ 6 ∷ 1 ∷ 2 ∷ 4 ∷ 3 ∷ 8 ∷ 9 ∷ 5 ∷ []
-unfolding good within allows laid laidAs cucLaid cdsLaid ccsLaid headedOf scanIn scanOf writeOf roomed countOf U.isWidth U.width U.field U.holds U.inOctets U.bytesOf A.width A.layoutOf A.dayAt A.clockAt A.fieldsOf A.text A.dayText A.clockText A.codeText A.bytesOf lettersOf shaped shapes timeOf momentOf isMoment L.utcOfSecond L.readingOf L.liftedBy L.secondOfUtc L.secondOf readingAt coversSecond dayHolding secondAt covers dayLength start offset builtin kind yearStart yearsTo row monthLength isDate isOrdinal dayIndex ordinalOn dateIn indexOfDate indexOfOrdinal indexOfDay ordinalAt K.tagWith K.tagIn K.periodicOf K.listPeriodic K.listCuc startAt momentsIn firstSecond counted namedIn filter consIf range up calendarAs clockAs unzoned timeIn alone joined formed goodDay goodClock tagOf names dayFits clockFits AsciiTag.covered AsciiTag.listWanted AsciiTag.listAscii shapeOf days months hours minutes
+unfolding good within allows laid laidAs cucLaid cdsLaid ccsLaid headedOf scanIn scanOf writeOf roomed countOf U.isWidth U.width U.field U.holds U.inOctets U.bytesOf A.width A.layoutOf A.dayAt A.clockAt A.fieldsOf A.text A.dayText A.clockText A.codeText A.bytesOf lettersOf shaped shapeOf codeShapes timeOf momentOf isMoment L.utcOfSecond L.readingOf L.liftedBy L.secondOfUtc L.secondOf readingAt coversSecond dayHolding secondAt covers dayLength start offset builtin kind yearStart yearsTo row monthLength isDate isOrdinal dayIndex ordinalOn dateIn indexOfDate indexOfOrdinal indexOfDay ordinalAt K.tagWith K.tagIn K.periodicOf K.listPeriodic K.listCuc startAt momentsIn firstSecond counted namedIn filter consIf range up calendarAs clockAs unzoned timeIn alone joined formed goodDay goodClock tagOf names dayFits clockFits AsciiTag.covered AsciiTag.listWanted AsciiTag.listAscii shapeOf days months hours minutes
 refusals = refl

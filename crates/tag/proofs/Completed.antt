@@ -6,25 +6,24 @@ use Prim.Native.Nat.{ℕ, _+_, _-_, _*_, _/_, _%_, _^_, _≤_, _<_}
 use native.Mathlib.Omega.{arith}
 use lib.Dec.{leb, ltb}
 use lib.ListN.{length, take, drop}
-use borrow.Author.Tests.{ltb-true}
+use borrow.Author.Tests.{eqb-true, ltb-true}
 use Rattle.base.specs.Outcome.{Outcome, done, refused, need, given}
 use Rattle.base.proofs.Ladders.{done-is, need-done, then-done, given-done}
 use Rattle.base.proofs.Bools.{and-true}
 use Rattle.octets.specs.Places.{digits}
 use Rattle.ascii.specs.declared.Layout.{Layout}
-use Rattle.ascii.specs.Quoted.{bytes}
 use Rattle.clock.specs.Clock.{minuteOf}
 use Rattle.ascii.specs.Ascii.{ticksOf, zoneText, codeText}
 use Rattle.ascii.proofs.Shapes.{lay}
 use Rattle.seek.specs.declared.Tag.{Tag}
 use Rattle.seek.specs.Naming.{dayFits, clockFits}
-use Rattle.tag.specs.Forms.{Form, days, months, hours, minutes, find, shapeOf}
-use Rattle.tag.specs.Tags.{until, calendarAs, timeIn, Timed, tag, midnight, anyDay, aloneBy, alone, joined, formed, goodTag, tagOf}
+use Rattle.tag.specs.Forms.{Form, days, months, hours, minutes, find}
+use Rattle.tag.specs.Tags.{until, calendarAs, timeIn, Daytime, tag, midnight, anyDay, aloneBy, alone, joined, formed, goodTag, wantOf}
 use Rattle.tag.specs.Shortening.{cut, lowFrom, Run, Shortening, calendar, time, both}
-use Rattle.tag.proofs.Shapes.{until-cut}
+use Rattle.tag.proofs.Scans.{until-cut}
 use Rattle.tag.proofs.Subfields.{dated, clocked, calendar-of, clock-of, zone-of}
-use Rattle.tag.proofs.DatesBack.{is-may, low-is, DayBack, whole-back, day-back}
-use Rattle.tag.proofs.TimesBack.{TimeBack, behind-back, alone-back}
+use Rattle.tag.proofs.Dates.{DayBack, whole-back, day-back}
+use Rattle.tag.proofs.Clocks.{TimeBack, behind-back, alone-back}
 
 -- the full code of a day, a second of it and a tick count that a text is a shortening of
 pub record Completed (n x k : ℕ) (s : List ℕ) : Type 0 where
@@ -37,26 +36,26 @@ pub record Completed (n x k : ℕ) (s : List ℕ) : Type 0 where
 
 -- ---- what a tag was formed of
 pub data Parts (s : List ℕ) (t : Tag) : Type 0 where
-  day : (f : Form) → find (days ++ months) (shapeOf s) ≡ done f → tag (calendarAs s f) midnight ≡ t → Parts s t
-  clock : (k : Timed) → timeIn (hours ++ minutes) s ≡ done k → tag anyDay k ≡ t → Parts s t
-  joint : (c r : List ℕ) (f : Form) (k : Timed) → s ≡ c ++ (84 ∷ r) → find days (shapeOf c) ≡ done f → timeIn hours r ≡ done k → tag (calendarAs c f) k ≡ t → Parts s t
+  day : (f : Form) → find (days ++ months) s ≡ done f → tag (calendarAs s f) midnight ≡ t → Parts s t
+  clock : (k : Daytime) → timeIn (hours ++ minutes) s ≡ done k → tag anyDay k ≡ t → Parts s t
+  joint : (c r : List ℕ) (f : Form) (k : Daytime) → s ≡ c ++ (84 ∷ r) → find days c ≡ done f → timeIn hours r ≡ done k → tag (calendarAs c f) k ≡ t → Parts s t
 
 parts-alone : (s : List ℕ) (t : Tag) → alone s ≡ done t → Parts s t
 unfolding alone
-parts-alone s t e = go (find (days ++ months) (shapeOf s)) refl e
+parts-alone s t e = go (find (days ++ months) s) refl e
   where
-    go : (o : Outcome Form) → find (days ++ months) (shapeOf s) ≡ o → aloneBy s o ≡ done t → Parts s t
+    go : (o : Outcome Form) → find (days ++ months) s ≡ o → aloneBy s o ≡ done t → Parts s t
     go (done f) p e = day f p (done-is _ t e)
     go (refused n) p e = let (k, (a, b)) = given-done (tag anyDay) (timeIn (hours ++ minutes) s) t e in clock k a b
 
 parts-joined : (s c r : List ℕ) (t : Tag) → s ≡ c ++ (84 ∷ r) → joined c r ≡ done t → Parts s t
 unfolding joined
 parts-joined s c r t i e =
-    let (f, (a, b)) = then-done (find days (shapeOf c)) (λ f. given (tag (calendarAs c f)) (timeIn hours r)) t e in
+    let (f, (a, b)) = then-done (find days c) (λ f. given (tag (calendarAs c f)) (timeIn hours r)) t e in
     let (k, (p, q)) = given-done (tag (calendarAs c f)) (timeIn hours r) t b in
     joint c r f k i a p q
 
-parts-formed : (s : List ℕ) (t : Tag) → formed s ≡ done t → Parts s t
+pub parts-formed : (s : List ℕ) (t : Tag) → formed s ≡ done t → Parts s t
 unfolding formed
 parts-formed s t e = go (ltb (until 84 s) (length s)) refl e
   where
@@ -64,8 +63,8 @@ parts-formed s t e = go (ltb (until 84 s) (length s)) refl e
     go true p e = parts-joined s _ _ t (until-cut 84 s (ltb-true (until 84 s) (length s) p)) e
     go false p e = parts-alone s t e
 
-pub parts : (s : List ℕ) (t : Tag) → tagOf s ≡ done t → Parts s t × (goodTag t ≡ true)
-unfolding tagOf
+pub parts : (s : List ℕ) (t : Tag) → wantOf s ≡ done t → Parts s t × (goodTag t ≡ true)
+unfolding wantOf
 parts s t e =
     let (a, b) = need-done (leb 1 (length s)) 1 _ t e in
     let (u, (c, d)) = then-done (formed s) (λ t. need (goodTag t) 4 (done t)) t b in
@@ -79,10 +78,10 @@ unfolding clockFits
 at-midnight x e =
     let (a, q) = and-true _ _ e in
     let (b, c) = and-true _ _ q in
-    rw (low-is 2 (minuteOf x / 60) 0 (bytes "00") (sym (is-may _ _ a)) refl, low-is 2 (minuteOf x % 60) 0 (bytes "00") (sym (is-may _ _ b)) refl, low-is 2 (x - minuteOf x * 60) 0 (bytes "00") (sym (is-may _ _ c)) refl)
+    rw (← eqb-true 0 (minuteOf x / 60) a, ← eqb-true 0 (minuteOf x % 60) b, ← eqb-true 0 (x - minuteOf x * 60) c)
 
 module _ (n x : ℕ) (s : List ℕ) where
-  day-code : DayBack n s false → lowFrom 0 (clocked x []) ≡ true → Completed n x 0 s
+  day-code : {w : Bool} → DayBack n s w → lowFrom 0 (clocked x []) ≡ true → Completed n x 0 s
   day-code b z =
       let l = lay (b .ordinal) 0 false in
       let e = calendar-of l n x 0 (omega arith) in
@@ -97,7 +96,7 @@ module _ (n x : ℕ) (s : List ℕ) where
             (calendar (b .lo) (b .hi) (rw e (b .run)) (rw (clock-of l n x 0 (omega arith)) z));
       }
 
-  time-code : (k : ℕ) → TimeBack false x k s → Completed n x k s
+  time-code : {w : Bool} (k : ℕ) → TimeBack w x k s → Completed n x k s
   time-code k b =
       let l = lay false (b .digits-of) (b .zone) in
       let f = b .number-of in
@@ -139,9 +138,9 @@ both-code n x k s c r i d b =
     }
 
 -- each day and second that have what a tag wants
-pub completed : (s : List ℕ) (t : Tag) (n x : ℕ) → Parts s t → dayFits (t .calendar) n ≡ true → clockFits (t .clock) x ≡ true → Completed n x (t .ticks) s
-completed s t n x (day f e i) p q =
-    rw (← i) (day-code n x s (day-back n s f e (rw (← i) at p)) (at-midnight x (rw (← i) at q)))
-completed s t n x (clock k e i) p q = rw (← i) (time-code n x s (k .ticks) (alone-back x s k e (rw (← i) at q)))
-completed s t n x (joint c r f k j e g i) p q =
-    rw (← i) (both-code n x (k .ticks) s c r j (whole-back n c f e (rw (← i) at p)) (behind-back x r k g (rw (← i) at q)))
+pub completed : (s : List ℕ) (t : Tag) (n x : ℕ) → n ≤ 3652058 → x ≤ 86400 → Parts s t → dayFits (t .calendar) n ≡ true → clockFits (t .clock) x ≡ true → Completed n x (t .ticks) s
+completed s t n x h l (day f e i) p q =
+    rw (← i) (day-code n x s (day-back n h s f e (rw (← i) at p) .1) (at-midnight x (rw (← i) at q)))
+completed s t n x h l (clock k e i) p q = rw (← i) (time-code n x s (k .ticks) (alone-back x l s k e (rw (← i) at q) .1))
+completed s t n x h l (joint c r f k j e g i) p q =
+    rw (← i) (both-code n x (k .ticks) s c r j (whole-back n h c f e (rw (← i) at p)) (behind-back x l r k g (rw (← i) at q)))

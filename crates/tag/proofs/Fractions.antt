@@ -12,9 +12,9 @@ use Rattle.base.proofs.Bools.{and-true}
 use Rattle.scale.specs.Time.{perSecond}
 use Rattle.octets.specs.Places.{digitValue, digits, decimalOf}
 use Rattle.octets.proofs.Places.{digit-rule, number-places, number-split}
-use Rattle.ascii.specs.Quoted.{bytes}
+use Rattle.shape.specs.Quoted.{bytes}
 use Rattle.ascii.specs.Ascii.{ticksOf}
-use Rattle.ascii.proofs.Shapes.{downTo, down-at}
+use Rattle.shape.proofs.Tests.{downTo, down-at}
 use Rattle.tag.specs.Shortening.{digitsBy, cut, lowFrom}
 
 -- ---- what is left

@@ -12,11 +12,11 @@ use Rattle.base.specs.Outcome.{done, need, andThen, given}
 use Rattle.base.proofs.Ladders.{need-yes}
 use Rattle.octets.specs.Places.{allGood, digitGood}
 use Rattle.ascii.specs.Ascii.{zoneText}
-use Rattle.ascii.proofs.Shapes.{zeros, zone-length}
-use Rattle.ascii.proofs.Sizes.{bit-le}
-use Rattle.tag.specs.Forms.{Form, Forms, find, shapeOf}
-use Rattle.tag.specs.Tags.{until, timed, clockAs, fractionAs, unzoned, timeIn}
-use Rattle.tag.proofs.Shapes.{good-shape, until-shape, until-zeros, until-past}
+use Rattle.shape.proofs.Shapes.{zeros, good-shape}
+use Rattle.ascii.proofs.Sizes.{bit-le, zone-length}
+use Rattle.tag.specs.Forms.{Form, Forms, find}
+use Rattle.tag.specs.Tags.{until, daytime, clockAs, fractionAs, unzoned, timeIn}
+use Rattle.tag.proofs.Scans.{until-shape, until-zeros, until-past}
 
 -- what may follow a time's head: nothing, or a period and digits
 pub data Tail : List ℕ → Type 0 where
@@ -41,7 +41,7 @@ zone-until : (z : Bool) → until 90 (zoneText z) ≡ 0
 zone-until true = refl
 zone-until false = refl
 
-module _ (fs : Forms) (f : Form) (head tail : List ℕ) (z : Bool) (t : Tail tail) (p : until 90 head ≡ length head) (q : until 46 head ≡ length head) (g : find fs (shapeOf head) ≡ done f) where
+module _ (fs : Forms) (f : Form) (head tail : List ℕ) (z : Bool) (t : Tail tail) (p : until 90 head ≡ length head) (q : until 46 head ≡ length head) (g : find fs head ≡ done f) where
   abbrev whole : List ℕ
   whole = head ++ (tail ++ zoneText z)
 
@@ -54,13 +54,13 @@ module _ (fs : Forms) (f : Form) (head tail : List ℕ) (z : Bool) (t : Tail tai
   head-ends : until 46 (head ++ tail) ≡ length head
   head-ends = until-past 46 head tail q ∙ omega (arith, tail-period t)
 
-  unzoned-told : unzoned fs (head ++ tail) ≡ given (timed (clockAs head f)) (fractionAs (f .third) tail)
+  unzoned-told : unzoned fs (head ++ tail) ≡ given (daytime (clockAs head f)) (fractionAs (f .third) tail)
   unfolding unzoned
   unzoned-told =
-      ap (λ (n : ℕ). andThen (find fs (shapeOf (take n (head ++ tail)))) (λ f. given (timed (clockAs (take n (head ++ tail)) f)) (fractionAs (f .third) (drop n (head ++ tail))))) head-ends
+      ap (λ (n : ℕ). andThen (find fs (take n (head ++ tail))) (λ f. given (daytime (clockAs (take n (head ++ tail)) f)) (fractionAs (f .third) (drop n (head ++ tail))))) head-ends
       ∙ rw (take-at head tail (length head) refl, drop-at head tail (length head) refl, g)
 
-  pub time-told : timeIn fs whole ≡ given (timed (clockAs head f)) (fractionAs (f .third) tail)
+  pub time-told : timeIn fs whole ≡ given (daytime (clockAs head f)) (fractionAs (f .third) tail)
   unfolding timeIn
   time-told =
       let n = length (head ++ tail) in

@@ -5,12 +5,13 @@ use Prim.Native.Nat.{ℕ}
 use lib.ListN.{replicate}
 use Rattle.base.specs.Outcome.{done, refused}
 use Rattle.calendar.specs.Gregorian.{kind, row, monthLength, isDate, isOrdinal}
-use Rattle.ascii.specs.Quoted.{bytes}
+use Rattle.shape.specs.Quoted.{bytes}
 use Rattle.seek.specs.declared.Want.{Want}
 use Rattle.seek.specs.declared.Want.the-variants.{Free, Is}
 use Rattle.seek.specs.declared.Tag.{Tag}
-use Rattle.tag.specs.Forms.{shapeOf, days, months, hours, minutes}
-use Rattle.tag.specs.Tags.{calendarAs, clockAs, unzoned, timeIn, alone, joined, formed, goodDay, goodClock, tagOf}
+use Rattle.shape.specs.Shapes.{shapeOf}
+use Rattle.tag.specs.Forms.{days, months, hours, minutes}
+use Rattle.tag.specs.Tags.{calendarAs, clockAs, unzoned, timeIn, alone, joined, formed, goodDay, goodClock, wantOf}
 
 abbrev wants : Want → Want → Want → Want → Want → Want → Want → ℕ → Tag
 wants y m d o h i s k = record {
@@ -26,7 +27,7 @@ calendars = bytes "2016-12-31" ∷ bytes "-12-31" ∷ bytes "--31" ∷ bytes "20
 abbrev date : Want → Want → Want → Want → Tag
 date y m d o = wants y m d o (Is 0) (Is 0) (Is 0) 0
 
-calendars-want : map tagOf calendars ≡
+calendars-want : map wantOf calendars ≡
     done (date (Is 2016) (Is 12) (Is 31) Free) ∷
     done (date Free (Is 12) (Is 31) Free) ∷
     done (date Free Free (Is 31) Free) ∷
@@ -36,7 +37,7 @@ calendars-want : map tagOf calendars ≡
     done (date Free (Is 12) (Is 1) Free) ∷
     done (date (Is 2016) (Is 1) (Is 1) Free) ∷
     done (date Free (Is 2) (Is 29) Free) ∷ []
-unfolding calendars tagOf formed alone calendarAs shapeOf days months goodDay goodClock isDate isOrdinal monthLength kind row
+unfolding calendars wantOf formed alone calendarAs shapeOf days months goodDay goodClock isDate isOrdinal monthLength kind row
 calendars-want = refl
 
 -- ---- times
@@ -46,7 +47,7 @@ times = bytes "12" ∷ bytes "12:34" ∷ bytes "12:34:56" ∷ bytes "12:34:56.5"
 abbrev time : Want → Want → Want → ℕ → Tag
 time h i s k = wants Free Free Free Free h i s k
 
-times-want : map tagOf times ≡
+times-want : map wantOf times ≡
     done (time (Is 12) (Is 0) (Is 0) 0) ∷
     done (time (Is 12) (Is 34) (Is 0) 0) ∷
     done (time (Is 12) (Is 34) (Is 56) 0) ∷
@@ -63,20 +64,20 @@ times-want : map tagOf times ≡
     done (time (Is 23) (Is 59) (Is 60) 0) ∷
     done (time Free (Is 59) (Is 60) 0) ∷
     done (time Free Free (Is 60) 0) ∷ []
-unfolding times tagOf formed alone timeIn unzoned clockAs shapeOf days months hours minutes goodDay goodClock isDate isOrdinal monthLength kind row
+unfolding times wantOf formed alone timeIn unzoned clockAs shapeOf days months hours minutes goodDay goodClock isDate isOrdinal monthLength kind row
 times-want = refl
 
 -- ---- both
 both : List (List ℕ)
 both = bytes "-366T23:59:60" ∷ bytes "2016-12-31T23:59:60.5Z" ∷ bytes "2016-366T12" ∷ bytes "-12-31T12:34Z" ∷ bytes "--31T12:34:56" ∷ []
 
-both-want : map tagOf both ≡
+both-want : map wantOf both ≡
     done (wants Free Free Free (Is 366) (Is 23) (Is 59) (Is 60) 0) ∷
     done (wants (Is 2016) (Is 12) (Is 31) Free (Is 23) (Is 59) (Is 60) 2048000000000000) ∷
     done (wants (Is 2016) Free Free (Is 366) (Is 12) (Is 0) (Is 0) 0) ∷
     done (wants Free (Is 12) (Is 31) Free (Is 12) (Is 34) (Is 0) 0) ∷
     done (wants Free Free (Is 31) Free (Is 12) (Is 34) (Is 56) 0) ∷ []
-unfolding both tagOf formed joined timeIn unzoned calendarAs clockAs shapeOf days hours goodDay goodClock isDate isOrdinal monthLength kind row
+unfolding both wantOf formed joined timeIn unzoned calendarAs clockAs shapeOf days hours goodDay goodClock isDate isOrdinal monthLength kind row
 both-want = refl
 
 -- ---- refused with 4: fields out of their ranges, then texts of no permitted form
@@ -86,14 +87,14 @@ out = bytes "-02-30" ∷ bytes "2023-366" ∷ bytes "2023-02-29" ∷ bytes "0000
 formless : List (List ℕ)
 formless = bytes "-12T10" ∷ bytes "2016T12" ∷ bytes "--31T:10" ∷ bytes "2016-12-31T" ∷ bytes "T12" ∷ bytes "2016Z" ∷ bytes "Z" ∷ bytes "12Z5" ∷ bytes "12z" ∷ bytes "::" ∷ bytes "::." ∷ bytes "::.a" ∷ bytes "12.5" ∷ bytes ":34.5" ∷ bytes "12:34:56.1234567890123" ∷ bytes "2016-1-1" ∷ bytes "---31" ∷ []
 
-out-refused : map tagOf out ≡ replicate 14 (refused 4)
-unfolding out tagOf formed alone timeIn unzoned calendarAs clockAs shapeOf days months hours minutes goodDay goodClock isDate isOrdinal monthLength kind row
+out-refused : map wantOf out ≡ replicate 14 (refused 4)
+unfolding out wantOf formed alone timeIn unzoned calendarAs clockAs shapeOf days months hours minutes goodDay goodClock isDate isOrdinal monthLength kind row
 out-refused = refl
 
-formless-refused : map tagOf formless ≡ replicate 17 (refused 4)
-unfolding formless tagOf formed alone joined timeIn unzoned shapeOf days months hours minutes
+formless-refused : map wantOf formless ≡ replicate 17 (refused 4)
+unfolding formless wantOf formed alone joined timeIn unzoned shapeOf days months hours minutes
 formless-refused = refl
 
-empty-refused : tagOf [] ≡ refused 1
-unfolding tagOf
+empty-refused : wantOf [] ≡ refused 1
+unfolding wantOf
 empty-refused = refl

@@ -10,36 +10,36 @@ use Rattle.base.specs.Outcome.{Outcome, done, refused, need, andThen, given}
 use Rattle.base.proofs.Bools.{cond-yes, cond-no}
 use Rattle.base.proofs.Ladders.{need-yes, need-no}
 use Rattle.seek.specs.declared.Tag.{Tag}
-use Rattle.tag.specs.Forms.{Form, shapeOf, days, months, hours, minutes, find}
-use Rattle.tag.specs.Tags.{calendarAs, until, Timed, timeIn, tag, midnight, anyDay, aloneBy, alone, joined, formed, goodTag, tagOf}
+use Rattle.tag.specs.Forms.{Form, days, months, hours, minutes, find}
+use Rattle.tag.specs.Tags.{calendarAs, until, Daytime, timeIn, tag, midnight, anyDay, aloneBy, alone, joined, formed, goodTag, wantOf}
 
 -- ---- a calendar and a time
 module _ (c k : List ℕ) where
-  pub joined-none : find days (shapeOf c) ≡ refused 4 → refused 4 ≡ joined c k
+  pub joined-none : find days c ≡ refused 4 → refused 4 ≡ joined c k
   unfolding joined
   joined-none e = sym (rw e)
 
-  module _ (f : Form) (e : find days (shapeOf c) ≡ done f) where
+  module _ (f : Form) (e : find days c ≡ done f) where
     pub joined-bad : timeIn hours k ≡ refused 4 → refused 4 ≡ joined c k
     unfolding joined
     joined-bad g = sym (rw (e, g))
 
-    pub joined-done : (t : Timed) → timeIn hours k ≡ done t → done (tag (calendarAs c f) t) ≡ joined c k
+    pub joined-done : (t : Daytime) → timeIn hours k ≡ done t → done (tag (calendarAs c f) t) ≡ joined c k
     unfolding joined
     joined-done t g = sym (rw (e, g))
 
 -- ---- one of the two
 module _ (s : List ℕ) where
-  pub alone-day : (f : Form) → find (days ++ months) (shapeOf s) ≡ done f → done (tag (calendarAs s f) midnight) ≡ alone s
+  pub alone-day : (f : Form) → find (days ++ months) s ≡ done f → done (tag (calendarAs s f) midnight) ≡ alone s
   unfolding alone
   alone-day f e = sym (ap (aloneBy s) e)
 
-  module _ (e : find (days ++ months) (shapeOf s) ≡ refused 4) where
+  module _ (e : find (days ++ months) s ≡ refused 4) where
     pub alone-bad : timeIn (hours ++ minutes) s ≡ refused 4 → refused 4 ≡ alone s
     unfolding alone
     alone-bad g = sym (ap (aloneBy s) e ∙ ap (given (tag anyDay)) g)
 
-    pub alone-time : (t : Timed) → timeIn (hours ++ minutes) s ≡ done t → done (tag anyDay t) ≡ alone s
+    pub alone-time : (t : Daytime) → timeIn (hours ++ minutes) s ≡ done t → done (tag anyDay t) ≡ alone s
     unfolding alone
     alone-time t g = sym (ap (aloneBy s) e ∙ ap (given (tag anyDay)) g)
 
@@ -60,24 +60,24 @@ module _ (s : List ℕ) (t : ℕ) (e : t ≡ until 84 s) where
 
 -- ---- a tag
 module _ (s : List ℕ) where
-  pub tag-empty : length s < 1 → refused 1 ≡ tagOf s
-  unfolding tagOf
+  pub tag-empty : length s < 1 → refused 1 ≡ wantOf s
+  unfolding wantOf
   tag-empty h = sym (need-no 1 _ (lt-leb 1 (length s) h))
 
   abbrev ranged : Outcome Tag → Outcome Tag
   ranged x = andThen x (λ t. need (goodTag t) 4 (done t))
 
   module _ (h : 1 ≤ length s) where
-    tag-at : (x : Outcome Tag) → formed s ≡ x → tagOf s ≡ ranged x
-    unfolding tagOf
+    tag-at : (x : Outcome Tag) → formed s ≡ x → wantOf s ≡ ranged x
+    unfolding wantOf
     tag-at x e = need-yes 1 _ (le-leb 1 (length s) h) ∙ ap ranged e
 
-    pub tag-unformed : formed s ≡ refused 4 → refused 4 ≡ tagOf s
+    pub tag-unformed : formed s ≡ refused 4 → refused 4 ≡ wantOf s
     tag-unformed e = sym (tag-at (refused 4) e)
 
     module _ (t : Tag) (e : formed s ≡ done t) where
-      pub tag-out : goodTag t ≡ false → refused 4 ≡ tagOf s
+      pub tag-out : goodTag t ≡ false → refused 4 ≡ wantOf s
       tag-out g = sym (tag-at (done t) e ∙ need-no 4 _ g)
 
-      pub tag-done : goodTag t ≡ true → done t ≡ tagOf s
+      pub tag-done : goodTag t ≡ true → done t ≡ wantOf s
       tag-done g = sym (tag-at (done t) e ∙ need-yes 4 _ g)

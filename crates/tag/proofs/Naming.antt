@@ -21,7 +21,8 @@ use Rattle.utc.specs.Reckoning.{timeOf, readBy, reckons}
 use Rattle.utc.proofs.Laws.{table-good, last-index, time-told, time-done}
 use Rattle.utc.proofs.Lift.{read-so}
 use Rattle.ascii.specs.declared.Layout.{Layout}
-use Rattle.ascii.specs.Shapes.{shaped}
+use Rattle.shape.specs.Shapes.{shaped}
+use Rattle.ascii.specs.Shapes.{codeShapes}
 use Rattle.ascii.specs.Ascii.{frontOf, layoutOf, numberAt, dayAt, clockAt, ticksOf, fieldsOf, text, codeText}
 use Rattle.ascii.proofs.Shapes.{shaped-right}
 use Rattle.ascii.proofs.Sizes.{front-in}
@@ -32,7 +33,7 @@ use Rattle.ascii.proofs.Ladder.{text-shaped}
 use Rattle.ascii.proofs.Promises.{code-reads}
 use Rattle.seek.specs.declared.Tag.{Tag}
 use Rattle.seek.specs.Naming.{dayFits, clockFits, fitsReading}
-use Rattle.tag.specs.Tags.{tagOf}
+use Rattle.tag.specs.Tags.{wantOf}
 use Rattle.tag.specs.Shortening.{Shortening, Full, Names, Nameless}
 use Rattle.tag.proofs.Shortened.{Wants, wants}
 use Rattle.tag.proofs.Completed.{Completed, Parts, parts, completed}
@@ -58,10 +59,10 @@ clock-4 s i n e = go (clockOk (numberAt s i 2) (numberAt s (i + 3) 2) (numberAt 
     go true x e = never n x (sym e)
     go false x e = sym (refused-is 4 n e)
 
-full-length : (code : List ℕ) → shaped code ≡ true → 1 ≤ length code
+full-length : (code : List ℕ) → shaped codeShapes code ≡ true → 1 ≤ length code
 full-length code e = let (p, r) = shaped-right code e in omega (arith, p .size, front-in (layoutOf code .ordinal))
 
-module _ (code : List ℕ) (full : shaped code ≡ true) where
+module _ (code : List ℕ) (full : shaped codeShapes code ≡ true) where
   abbrev own : Layout
   own = layoutOf code
 
@@ -90,7 +91,7 @@ module _ (code : List ℕ) (full : shaped code ≡ true) where
             high = day-high (own .ordinal) code n e;
             low = clock-high code _ x f;
             small = part-lt own code r;
-            is = code-again own code n x p r e f;
+            is = code-again own code n x r e f;
           })
 
 -- ---- a text that is a shortening of a code that is not 4 is a tag, and wants what the code has
@@ -120,7 +121,7 @@ module _ (t : Table) (g : reckons t ≡ true) where
       (rw (u, d, c), b ∙ sym i)
 
   -- the tag names what a full code of which it is a shortening reads to ..
-  pub names-named : (s : List ℕ) (w : Tag) → tagOf s ≡ done w → (m : Time) → Names t s m → Named w m
+  pub names-named : (s : List ℕ) (w : Tag) → wantOf s ≡ done w → (m : Time) → Names t s m → Named w m
   names-named s w e m (code, (f, r)) =
       ⊎-elim (λ (h : text code ≡ refused 4). never 4 m (sym (ap (readBy t) h) ∙ r)) (λ (c : Spelled code). go c) (full-cases code (f .full))
     where
@@ -133,7 +134,7 @@ module _ (t : Table) (g : reckons t ≡ true) where
           subst (λ (y : Tag). Named y m) i (names-by (q .wanted) m (c .day) (c .second) _ (c .low) (q .day) (q .second) (q .ticks) h)
 
   -- .. and nothing else
-  pub named-names : (s : List ℕ) (w : Tag) → tagOf s ≡ done w → (m : Time) → Named w m → Names t s m
+  pub named-names : (s : List ℕ) (w : Tag) → wantOf s ≡ done w → (m : Time) → Named w m → Names t s m
   named-names s w e m (f, i) = go (readingOf t (m .sec)) refl f
     where
       p : Parts s w
@@ -144,23 +145,23 @@ module _ (t : Table) (g : reckons t ≡ true) where
       go (done u) h f =
           let (d, c) = and-true (dayFits (w .calendar) (u .day)) (clockFits (w .clock) (u .second)) f in
           let b = reading-back t (table-good t g) (m .sec) u h in
-          let (code, (q, r)) = code-of s (u .day) (u .second) (w .ticks) (omega (arith, b .covered, last-index t g)) (b .low) (completed s w (u .day) (u .second) p d c) in
+          let (code, (q, r)) = code-of s (u .day) (u .second) (w .ticks) (omega (arith, b .covered, last-index t g)) (b .low) (completed s w (u .day) (u .second) (omega (arith, b .covered, last-index t g)) (b .low) p d c) in
           (code, (q, read-so t (text code) _ m r (time-done t _ (m .sec) (utc-index t (table-good t g) (u .day) (u .second) (b .low) ∙ b .back) ∙ ap (λ (k : ℕ). done (record { sec = m .sec; ticks = k })) (sym i))))
 
 -- ---- refused 4
-pub refused-nameless : (s : List ℕ) → tagOf s ≡ refused 4 → Nameless s
+pub refused-nameless : (s : List ℕ) → wantOf s ≡ refused 4 → Nameless s
 refused-nameless s e code f =
     ⊎-elim (λ (h : text code ≡ refused 4). h) (λ (c : Spelled code). let w = spelled-wants s code c (f .short) in never 4 (w .wanted) (sym e ∙ w .told)) (full-cases code (f .full))
 
 -- .. of a text that is not empty, exactly when no full code of which it is a shortening reads to anything but 4
-pub nameless-refused : (s : List ℕ) → 1 ≤ length s → Nameless s → tagOf s ≡ refused 4
-nameless-refused s l none = go (tagOf s) refl
+pub nameless-refused : (s : List ℕ) → 1 ≤ length s → Nameless s → wantOf s ≡ refused 4
+nameless-refused s l none = go (wantOf s) refl
   where
-    go : (o : Outcome Tag) → tagOf s ≡ o → tagOf s ≡ refused 4
+    go : (o : Outcome Tag) → wantOf s ≡ o → wantOf s ≡ refused 4
     go (refused n) e = e ∙ ap refused (tag-4 s n l e)
     go (done w) e =
         let (p, g) = parts s w e in
         let (n, high, d) = day-exists s w p g in
         let (x, low, c) = second-exists w g in
-        let (code, (f, r)) = code-of s n x (w .ticks) high low (completed s w n x p d c) in
+        let (code, (f, r)) = code-of s n x (w .ticks) high low (completed s w n x high low p d c) in
         never 4 _ (sym (none code f) ∙ r)

@@ -6,18 +6,20 @@ use Prim.Native.Nat.{ℕ, zero, suc, _+_, _<_, _≤_}
 use native.Mathlib.Nat.{not-suc-le-zero, le-of-suc-le-suc}
 use native.Mathlib.Numerals.{add-one}
 use native.Mathlib.Omega.{arith}
-use borrow.Author.Tests.{eqb-true, eq-eqb, ne-eqb, leb-true, lt-ltb, le-ltb}
+use borrow.Author.Tests.{eq-eqb, ne-eqb, leb-true, lt-ltb, le-ltb}
 use lib.Dec.{eqb, leb}
-use lib.ListN.{length, getD, take, drop, replicate, length-map, List·getD-map}
-use lib.Seq.{getD-take, getD-drop, slice-cons, slice-empty}
+use lib.ListN.{length, getD, take, drop, replicate, List·getD-map}
+use lib.Seq.{getD-take, slice-cons, slice-empty}
 use Rattle.base.specs.Outcome.{done, refused}
 use Rattle.base.proofs.Bools.{and-true, cond-yes, cond-no}
 use Rattle.octets.specs.Places.{allGood, digitGood}
-use Rattle.octets.proofs.Places.{all-good, good-at}
-use Rattle.ascii.proofs.Shapes.{downTo, down-at}
-use Rattle.tag.specs.Forms.{Place, free, lowest, at, Form, Forms, kind, shapeOf, days, months, hours, minutes, same, find}
+use Rattle.shape.proofs.Tests.{downTo, down-at, same-is, same-size}
+use Rattle.shape.specs.Shapes.{kindOf, shapeOf, same, fits}
+use Rattle.shape.proofs.Shapes as S
+use Rattle.shape.proofs.Shapes.{shape-length, kind-at}
+use Rattle.tag.specs.Forms.{Place, free, lowest, at, Form, Forms, days, months, hours, minutes, find}
 use Rattle.tag.specs.Inner.{forms, noForm, formAt, between, foundAt, Row, placeOf, placesOf, placeIn, widthIn}
-use Rattle.tag.proofs.Scans.{SameFrom, same-is, same-size, same-other, same-next, same-end, find-has}
+use Rattle.tag.proofs.Scans.{SameFrom, same-other, same-next, same-end, find-has}
 
 -- ---- the tables
 abbrev padded : Form → List ℕ
@@ -102,24 +104,15 @@ place-lowest n e = rw e
 pub place-number : (n : ℕ) → (n ≡ 100 → ⊥) → (n ≡ 101 → ⊥) → placeOf n ≡ at n
 place-number n f g = cond-no _ _ (ne-eqb n 100 f) ∙ cond-no _ _ (ne-eqb n 101 g)
 
--- ---- the shape of a text
-pub shape-length : (s : List ℕ) → length (shapeOf s) ≡ length s
-unfolding shapeOf
-shape-length s = length-map s kind
-
-pub kind-at : (s : List ℕ) (j : ℕ) → j < length s → getD (shapeOf s) j 0 ≡ kind (getD s j 0)
-unfolding shapeOf
-kind-at s j h = at-map kind s 0 0 j h
-
 -- ---- a text and the shape of a row, compared a byte at a time
 module _ (s : List ℕ) (i : ℕ) where
   pub row-size : (length (formAt i .shape) ≡ length s → ⊥) → false ≡ same (formAt i .shape) (shapeOf s)
   row-size f = same-size (formAt i .shape) (shapeOf s) (λ e. f (e ∙ shape-length s))
 
   module _ (j : ℕ) where
-    module _ (h : i < 15) (k : j < length (formAt i .shape)) (l : j < length s) (q : ℕ) (e : q ≡ kind (getD s j 0)) where
+    module _ (h : i < 15) (k : j < length (formAt i .shape)) (l : j < length s) (q : ℕ) (e : q ≡ kindOf (getD s j 0)) where
       compared : eqb (getD (getD shapeRows i []) j 0) q ≡ eqb (getD (formAt i .shape) j 0) (getD (shapeOf s) j 0)
-      compared = rw (shape-at i h j (omega (arith, length-le i h)), e, kind-at s j l)
+      compared = rw (shape-at i h j (omega (arith, length-le i h)), e, kind-at s j)
 
       pub row-other : (getD (getD shapeRows i []) j 0 ≡ q → ⊥) → SameFrom (formAt i .shape) (shapeOf s) j → false ≡ same (formAt i .shape) (shapeOf s)
       row-other f p =
@@ -133,13 +126,10 @@ module _ (s : List ℕ) (i : ℕ) where
     row-end h l p = same-end (formAt i .shape) (shapeOf s) j h (rw shape-length l) p
 
 -- ---- digits stand where the fields are
-abbrev sign : ℕ → Bool
-sign b = eqb b 48
-
 abbrev stands : List ℕ → ℕ → Place → Bool
 stands p w free = true
 stands p w lowest = true
-stands p w (at i) = leb (i + w) (length p) && allGood sign (drop i p) w
+stands p w (at i) = leb (i + w) (length p) && allGood digitGood (drop i p) w
 
 -- w digits stand where a field of w digits is
 abbrev pub Digits : List ℕ → ℕ → Place → Type 0
@@ -151,20 +141,12 @@ fields-stand : downTo 15 (λ i. downTo 4 (λ k. stands (formAt i .shape) (widthI
 unfolding forms days months hours minutes
 fields-stand = refl
 
-sign-good : (b : ℕ) → sign (kind b) ≡ true → digitGood b ≡ true
-sign-good b e = go (digitGood b) refl e
-  where
-    go : (t : Bool) → digitGood b ≡ t → sign (cond t 48 b) ≡ true → digitGood b ≡ true
-    go true q k = q
-    go false q k = let z : b ≡ 48 = eqb-true b 48 k in rw z
-
 digits-by : (s : List ℕ) (w : ℕ) (p : Place) → stands (shapeOf s) w p ≡ true → Digits s w p
 digits-by s w free e = tt
 digits-by s w lowest e = tt
 digits-by s w (at i) e =
-    let (a, b) = and-true (leb (i + w) (length (shapeOf s))) (allGood sign (drop i (shapeOf s)) w) e in
-    let l : i + w ≤ length s = omega (arith, leb-true (i + w) (length (shapeOf s)) a, shape-length s) in
-    (l, all-good digitGood (drop i s) w (λ j h. sign-good (getD (drop i s) j 0) (rw (getD-drop i s j 0, ← kind-at s (i + j) (omega arith), ← getD-drop i (shapeOf s) j 0) (good-at sign (drop i (shapeOf s)) w j b h))))
+    let (a, b) = and-true (leb (i + w) (length (shapeOf s))) (allGood digitGood (drop i (shapeOf s)) w) e in
+    (omega (arith, leb-true (i + w) (length (shapeOf s)) a, shape-length s), sym (S.digits-at s i w) ∙ b)
 
 pub digits-at : (s : List ℕ) (i k : ℕ) → Row s i → k < 4 → Digits s (widthIn i k) (placeIn (formAt i) k)
 digits-at s i k r h =
@@ -195,28 +177,28 @@ unfolding forms days months hours minutes
 rows-of-times = refl
 
 -- ---- the search of a form, a turn at a time
-module _ (p : List ℕ) (to i : ℕ) (b : to ≤ 15) where
-  find-turn : i < to → find (between i to) p ≡ cond (same (formAt i .shape) p) (done (formAt i)) (find (between (i + 1) to) p)
-  find-turn h = rw add-one (ap (λ (fs : Forms). find fs p) (slice-cons i to forms noForm h (rw all-rows b)))
+module _ (s : List ℕ) (to i : ℕ) (b : to ≤ 15) where
+  find-turn : i < to → find (between i to) s ≡ cond (fits (formAt i .shape) s) (done (formAt i)) (find (between (i + 1) to) s)
+  find-turn h = rw add-one (ap (λ (fs : Forms). find fs s) (slice-cons i to forms noForm h (rw all-rows b)))
 
-  pub find-here : i < to → same (formAt i .shape) p ≡ true → foundAt to i ≡ find (between i to) p
+  pub find-here : i < to → fits (formAt i .shape) s ≡ true → foundAt to i ≡ find (between i to) s
   find-here h e = cond-yes _ _ (lt-ltb i to h) ∙ sym (rw e at (find-turn h))
 
-  pub find-next : i < to → same (formAt i .shape) p ≡ false → find (between i to) p ≡ find (between (i + 1) to) p
+  pub find-next : i < to → fits (formAt i .shape) s ≡ false → find (between i to) s ≡ find (between (i + 1) to) s
   find-next h e = rw e at (find-turn h)
 
-  pub find-end : to ≤ i → i ≤ to → foundAt to i ≡ find (between i to) p
+  pub find-end : to ≤ i → i ≤ to → foundAt to i ≡ find (between i to) s
   find-end h k =
       let e : i ≡ to = omega arith in
-      cond-no _ _ (le-ltb i to h) ∙ sym (rw e (ap (λ (fs : Forms). find fs p) (slice-empty to forms)))
+      cond-no _ _ (le-ltb i to h) ∙ sym (rw e (ap (λ (fs : Forms). find fs s) (slice-empty to forms)))
 
 -- ---- what a row that was found tells
-module _ (fs : Forms) (s : List ℕ) (to i : ℕ) (e : foundAt to i ≡ find fs (shapeOf s)) where
-  pub found-form : i < to → find fs (shapeOf s) ≡ done (formAt i)
+module _ (fs : Forms) (s : List ℕ) (to i : ℕ) (e : foundAt to i ≡ find fs s) where
+  pub found-form : i < to → find fs s ≡ done (formAt i)
   found-form h = sym e ∙ cond-yes _ _ (lt-ltb i to h)
 
   pub found-row : i < to → to ≤ 15 → Row s i
-  found-row h b = record { row = omega arith; has = find-has fs (shapeOf s) (formAt i) (found-form h) }
+  found-row h b = record { row = omega arith; has = find-has s (formAt i) fs (found-form h) }
 
-  pub found-none : to ≤ i → find fs (shapeOf s) ≡ refused 4
+  pub found-none : to ≤ i → find fs s ≡ refused 4
   found-none h = sym e ∙ cond-no _ _ (le-ltb i to h)

@@ -16,37 +16,38 @@ use Rattle.clock.specs.Clock.{minuteOf}
 use Rattle.ascii.specs.Ascii.{ticksOf, codeText}
 use Rattle.seek.specs.declared.Tag.{Tag}
 use Rattle.seek.specs.Naming.{dayFits, clockFits}
-use Rattle.tag.specs.Forms.{Form, days, months, hours, minutes, find, shapeOf}
-use Rattle.tag.specs.Tags.{until, calendarAs, unzoned, timeIn, Timed, timed, tag, midnight, anyDay, alone, joined, formed, goodDay, goodClock, tagOf}
+use Rattle.shape.specs.Shapes.{shapeOf}
+use Rattle.tag.specs.Forms.{Form, days, months, hours, minutes, find}
+use Rattle.tag.specs.Tags.{until, calendarAs, unzoned, timeIn, Daytime, daytime, tag, midnight, anyDay, alone, joined, formed, goodDay, goodClock, wantOf}
 use Rattle.tag.specs.Shortening.{Shortening, calendar, time, both}
-use Rattle.tag.proofs.Shapes.{until-past}
+use Rattle.tag.proofs.Scans.{until-past}
 use Rattle.tag.proofs.Ladder.{joined-done, alone-day, alone-time, formed-joined, formed-alone, tag-done}
 use Rattle.tag.proofs.Subfields.{dated, calendar-of, clock-of, zone-of}
-use Rattle.tag.proofs.DatesForth.{Dated, date-forth}
-use Rattle.tag.proofs.TimesForth.{Timing, Ticking, time-forth, low-hour}
+use Rattle.tag.proofs.Dates.{Dated, date-forth}
+use Rattle.tag.proofs.Clocks.{Timing, Ticking, time-forth, low-hour}
 
 -- ---- a text that is a tag
-no-text : {X : Type 0} (f : Form) → find (days ++ months) (shapeOf []) ≡ done f → X
+no-text : {X : Type 0} (f : Form) → find (days ++ months) [] ≡ done f → X
 unfolding days months shapeOf
 no-text f e = never 4 f e
 
-no-time : {X : Type 0} (k : Timed) → timeIn (hours ++ minutes) [] ≡ done k → X
+no-time : {X : Type 0} (k : Daytime) → timeIn (hours ++ minutes) [] ≡ done k → X
 unfolding hours minutes shapeOf timeIn unzoned
 no-time k e = never 4 k e
 
-tag-by : (s : List ℕ) (t : Tag) → 1 ≤ length s → formed s ≡ done t → goodDay (t .calendar) ≡ true → goodClock (t .clock) ≡ true → tagOf s ≡ done t
+tag-by : (s : List ℕ) (t : Tag) → 1 ≤ length s → formed s ≡ done t → goodDay (t .calendar) ≡ true → goodClock (t .clock) ≡ true → wantOf s ≡ done t
 tag-by s t l e g h = sym (tag-done s l t e (rw (g, h)))
 
 -- no T: a calendar alone, or a time alone
 without : (s : List ℕ) → until 84 s ≡ length s → formed s ≡ alone s
 without s e = sym (formed-alone s (until 84 s) refl (omega (arith, e)))
 
-pub day-alone : (n : ℕ) (c : List ℕ) (f : Form) → Dated n c f → tagOf c ≡ done (tag (calendarAs c f) midnight)
+pub day-alone : (n : ℕ) (c : List ℕ) (f : Form) → Dated n c f → wantOf c ≡ done (tag (calendarAs c f) midnight)
 unfolding goodClock
 day-alone n [] f d = no-text f (d .found)
 day-alone n (b ∷ c) f d = tag-by (b ∷ c) _ (omega arith) (without (b ∷ c) (d .plain) ∙ sym (alone-day (b ∷ c) f (d .found))) (d .good) refl
 
-pub time-alone : (b : Bool) (x k : ℕ) (s : List ℕ) (t : Ticking b x k s) → tagOf s ≡ done (tag anyDay (timed (t .alone .clock) k))
+pub time-alone : (b : Bool) (x k : ℕ) (s : List ℕ) (t : Ticking b x k s) → wantOf s ≡ done (tag anyDay (daytime (t .alone .clock) k))
 unfolding goodDay isDate kind row monthLength
 time-alone b x k [] t = no-time _ (t .alone .told)
 time-alone b x k (c ∷ s) t =
@@ -60,16 +61,16 @@ formed-both c s e =
     sym (formed-joined w (length c) u (omega (arith, length-append c (84 ∷ s))))
     ∙ ap₂ joined (take-at c (84 ∷ s) (length c) refl) (drop-append-add c (84 ∷ s) 1)
 
-pub day-and-time : (n x k : ℕ) (c s : List ℕ) (f : Form) (d : Dated n c f) (t : Timing hours x k s) → find days (shapeOf c) ≡ done f → tagOf (c ++ (84 ∷ s)) ≡ done (tag (calendarAs c f) (timed (t .clock) k))
+pub day-and-time : (n x k : ℕ) (c s : List ℕ) (f : Form) (d : Dated n c f) (t : Timing hours x k s) → find days c ≡ done f → wantOf (c ++ (84 ∷ s)) ≡ done (tag (calendarAs c f) (daytime (t .clock) k))
 day-and-time n x k c s f d t e =
     tag-by (c ++ (84 ∷ s)) _ (omega (arith, length-append c (84 ∷ s)))
-    (formed-both c s (d .plain) ∙ sym (joined-done c s f e (timed (t .clock) k) (t .told)))
+    (formed-both c s (d .plain) ∙ sym (joined-done c s f e (daytime (t .clock) k) (t .told)))
     (d .good) (t .good)
 
 -- ---- what remains of a full code
 pub record Wants (n x k : ℕ) (s : List ℕ) : Type 0 where
   pub wanted : Tag
-  pub told : tagOf s ≡ done wanted
+  pub told : wantOf s ≡ done wanted
   pub day : dayFits (wanted .calendar) n ≡ true
   pub second : clockFits (wanted .clock) x ≡ true
   pub ticks : wanted .ticks ≡ k
@@ -86,23 +87,23 @@ module _ (l : Layout) (n x f : ℕ) (hn : n ≤ 3652058) (hx : x ≤ 86400) (hd 
   pub wants : {s : List ℕ} → Shortening (codeText l n x f) s → Wants n x (ticksOf (l .digits) f) s
   wants (calendar lo hi r low) =
       let e = calendar-of l n x f hd in
-      let (a, b, c, k) = low-hour x (l .digits) f hx hd hf (l .zone) (rw (clock-of l n x f hd) at low) in
+      let (a, b, c, k) = low-hour x hx (l .digits) f hd hf (l .zone) (rw (clock-of l n x f hd) at low) in
       rw e
       (let d = date-forth n hn (l .ordinal) lo hi (rw e at r) in
       record { wanted = tag (calendarAs _ (d .form-is)) midnight; told = day-alone n _ (d .form-is) (d .told); day = d .told .fits; second = at-midnight x a b c; ticks = sym k })
   wants (time lo hi i r) =
       rw (clock-of l n x f hd, zone-of l n x f hd)
-      (let t = time-forth x (l .digits) f hx hd hf (l .zone) lo hi i (rw (clock-of l n x f hd) at r) in
-      record { wanted = tag anyDay (timed (t .alone .clock) (ticksOf (l .digits) f)); told = time-alone _ _ _ _ t; day = any-fits n; second = t .alone .fits; ticks = refl })
+      (let t = time-forth x hx (l .digits) f hd hf (l .zone) lo hi i (rw (clock-of l n x f hd) at r) in
+      record { wanted = tag anyDay (daytime (t .alone .clock) (ticksOf (l .digits) f)); told = time-alone _ _ _ _ t; day = any-fits n; second = t .alone .fits; ticks = refl })
   wants (both lo hi r q) =
       let e = calendar-of l n x f hd in
       let g = clock-of l n x f hd in
       rw (e, g, zone-of l n x f hd)
       (let d = date-forth n hn (l .ordinal) lo (length (dated (l .ordinal) n)) (rw e at r) in
-      let t = time-forth x (l .digits) f hx hd hf (l .zone) 0 hi (omega arith) (rw g at q) in
+      let t = time-forth x hx (l .digits) f hd hf (l .zone) 0 hi (omega arith) (rw g at q) in
       let b = t .behind refl in
       record {
-        wanted = tag (calendarAs _ (d .form-is)) (timed (b .clock) (ticksOf (l .digits) f));
+        wanted = tag (calendarAs _ (d .form-is)) (daytime (b .clock) (ticksOf (l .digits) f));
         told = day-and-time n x _ _ _ (d .form-is) (d .told) b (d .reaches (eq-eqb (length (dated (l .ordinal) n)) _ refl));
         day = d .told .fits;
         second = b .fits;

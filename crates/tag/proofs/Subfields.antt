@@ -1,7 +1,7 @@
 -- The subfields of a full code that was put together of a day, a second of it and a fraction.
 use mathlib.Core.Path.{_≡_, refl, ap, _∙_}
 use mathlib.Core.Bool.{Bool, true, false}
-use mathlib.Core.List.{List, [], _∷_, _++_}
+use mathlib.Core.List.{List, [], _++_}
 use Prim.Native.Nat.{ℕ, zero, suc, _+_, _-_, _*_, _/_, _%_, _≤_}
 use lib.ListN.{take, drop}
 use lib.Seq.{take-at}
@@ -12,7 +12,7 @@ use Rattle.clock.specs.Clock.{minuteOf}
 use Rattle.ascii.specs.Ascii.{frontOf, dayText, clockText, fractionText, zoneText, codeText}
 use Rattle.ascii.proofs.Texts.{digits-length}
 use Rattle.ascii.proofs.Back.{code-shaped}
-use Rattle.tag.specs.Shortening.{Subfield, byOrdinal, byMonth, byClock, calendarBy, clockFrom, calendarOf, clockOf, zoneOf}
+use Rattle.tag.specs.Shortening.{Subfield, byOrdinal, byMonth, byClock, calendarBy, clockFrom, calendarFields, clockFields, zoneOf}
 
 abbrev pub dated : Bool → ℕ → List Subfield
 dated true n = byOrdinal (digits 4 (ordinalOn n .year)) (digits 3 (ordinalOn n .day))
@@ -39,14 +39,14 @@ clocked-in false n x d f z =
     ap (λ (ds : List ℕ). clocked x ds) (digits-in d f z)
 
 module _ (l : Layout) (n x f : ℕ) (h : l .digits ≤ 12) where
-  pub calendar-of : calendarOf (codeText l n x f) ≡ dated (l .ordinal) n
-  unfolding codeText calendarOf
+  pub calendar-of : calendarFields (codeText l n x f) ≡ dated (l .ordinal) n
+  unfolding codeText calendarFields
   calendar-of =
       ap (λ (k : Layout). calendarBy (k .ordinal) (codeText l n x f)) (code-shaped l n x f h .1)
       ∙ dated-in (l .ordinal) n _
 
-  pub clock-of : clockOf (codeText l n x f) ≡ clocked x (digits (l .digits) f)
-  unfolding codeText clockOf
+  pub clock-of : clockFields (codeText l n x f) ≡ clocked x (digits (l .digits) f)
+  unfolding codeText clockFields
   clock-of =
       ap (λ (k : Layout). clockFrom (frontOf (k .ordinal) - 8) (k .digits) (codeText l n x f)) (code-shaped l n x f h .1)
       ∙ clocked-in (l .ordinal) n x (l .digits) f (zoneText (l .zone))

@@ -20,8 +20,8 @@ use Rattle.octets.proofs.Counts.{told, told-short, read-lt}
 use Rattle.ascii.specs.Ascii.{numberAt, ticksOf}
 use Rattle.scale.proofs.Fractions.{ticks-lt}
 use Rattle.ascii.proofs.Reading.{power-is, grain}
-use Rattle.tag.specs.Forms.{free, lowest, at, Form, Forms, shapeOf, find}
-use Rattle.tag.specs.Tags.{fractionAs, until, Timed, timed, clockAs, unzoned, timeIn}
+use Rattle.tag.specs.Forms.{free, lowest, at, Form, Forms, find}
+use Rattle.tag.specs.Tags.{fractionAs, until, Daytime, daytime, clockAs, unzoned, timeIn}
 use Rattle.tag.specs.Inner.{placeOf}
 
 -- ---- numbers
@@ -101,25 +101,25 @@ module _ (s : List ℕ) (n : ℕ) where
 
 -- ---- times
 module _ (fs : Forms) (s : List ℕ) (p : ℕ) (e : p ≡ until 46 s) where
-  abbrev parted : ℕ → Outcome Timed
-  parted q = andThen (find fs (shapeOf (take q s))) (λ f. given (timed (clockAs (take q s) f)) (fractionAs (f .third) (drop q s)))
+  abbrev parted : ℕ → Outcome Daytime
+  parted q = andThen (find fs (take q s)) (λ f. given (daytime (clockAs (take q s) f)) (fractionAs (f .third) (drop q s)))
 
   unzoned-at : unzoned fs s ≡ parted p
   unfolding unzoned
   unzoned-at = ap parted (sym e)
 
-  pub unzoned-none : find fs (shapeOf (take p s)) ≡ refused 4 → refused 4 ≡ unzoned fs s
+  pub unzoned-none : find fs (take p s) ≡ refused 4 → refused 4 ≡ unzoned fs s
   unzoned-none f = sym (unzoned-at ∙ rw f)
 
-  module _ (g : Form) (f : find fs (shapeOf (take p s)) ≡ done g) where
+  module _ (g : Form) (f : find fs (take p s) ≡ done g) where
     pub unzoned-bad : fractionAs (g .third) (drop p s) ≡ refused 4 → refused 4 ≡ unzoned fs s
-    unzoned-bad k = sym (unzoned-at ∙ rw f (ap (given (timed (clockAs (take p s) g))) k))
+    unzoned-bad k = sym (unzoned-at ∙ rw f (ap (given (daytime (clockAs (take p s) g))) k))
 
-    pub unzoned-done : (n : ℕ) → fractionAs (g .third) (drop p s) ≡ done n → done (timed (clockAs (take p s) g) n) ≡ unzoned fs s
-    unzoned-done n k = sym (unzoned-at ∙ rw f (ap (given (timed (clockAs (take p s) g))) k))
+    pub unzoned-done : (n : ℕ) → fractionAs (g .third) (drop p s) ≡ done n → done (daytime (clockAs (take p s) g) n) ≡ unzoned fs s
+    unzoned-done n k = sym (unzoned-at ∙ rw f (ap (given (daytime (clockAs (take p s) g))) k))
 
 module _ (fs : Forms) (s : List ℕ) (z : ℕ) (e : z ≡ until 90 s) where
-  abbrev zoned : ℕ → Outcome Timed
+  abbrev zoned : ℕ → Outcome Daytime
   zoned q = need (leb (length s) (q + 1)) 4 (unzoned fs (take q s))
 
   time-at : timeIn fs s ≡ zoned z

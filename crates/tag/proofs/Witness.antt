@@ -21,9 +21,10 @@ use Rattle.seek.specs.declared.Want.the-variants.{Free, Is}
 use Rattle.seek.specs.declared.Calendar.{Calendar}
 use Rattle.seek.specs.declared.Tag.{Tag}
 use Rattle.seek.specs.Naming.{may, dayFits, clockFits}
-use Rattle.tag.specs.Forms.{Place, Form, Forms, days, months, hours, minutes, same, find, shapeOf}
-use Rattle.tag.specs.Tags.{until, isFree, isLowest, midnight, calendarAs, clockAs, unzoned, timeIn, timed, fractionAs, tag, alone, aloneBy, anyDay, joined, formed, orElse, goodDay, goodDayBy, goodClock, goodTag, tagOf}
-use Rattle.tag.proofs.DatesBack.{find-each}
+use Rattle.shape.specs.Shapes.{fits}
+use Rattle.tag.specs.Forms.{Place, Form, Forms, days, months, hours, minutes, find}
+use Rattle.tag.specs.Tags.{until, isFree, isLowest, midnight, calendarAs, clockAs, unzoned, timeIn, daytime, fractionAs, tag, alone, aloneBy, anyDay, joined, formed, orElse, goodDay, goodDayBy, goodClock, goodTag, wantOf}
+use Rattle.tag.proofs.Scans.{find-each}
 use Rattle.tag.proofs.Completed.{Parts, day, clock, joint}
 
 -- ---- a day
@@ -67,16 +68,16 @@ some-day c h e = go (c .ordinal) refl e
         ⊎-elim (λ (f : c .ordinal ≡ Free). dated-day c f (subst (λ (w : Want). goodDayBy c w ≡ true) (sym i ∙ f) e))
         (λ (f : (c .month ≡ Free) × (c .day ≡ Free)). ordinal-day c o i (f .0) (f .1) e) h
 
-either : (s : List ℕ) (f : Form) → find (days ++ months) (shapeOf s) ≡ done f → Either (calendarAs s f)
+either : (s : List ℕ) (f : Form) → find (days ++ months) s ≡ done f → Either (calendarAs s f)
 unfolding days months calendarAs
 either s f e =
-    find-each (λ g. Either (calendarAs s g)) (days ++ months) (shapeOf s) f e
+    find-each (λ g. Either (calendarAs s g)) (days ++ months) s f e
     (λ i. inl refl, (λ i. inl refl, (λ i. inl refl, (λ i. inr (refl, refl), (λ i. inr (refl, refl), (λ i. inl refl, (λ i. inl refl, (λ i. inl refl, tt))))))))
 
-either-days : (s : List ℕ) (f : Form) → find days (shapeOf s) ≡ done f → Either (calendarAs s f)
+either-days : (s : List ℕ) (f : Form) → find days s ≡ done f → Either (calendarAs s f)
 unfolding days calendarAs
 either-days s f e =
-    find-each (λ g. Either (calendarAs s g)) days (shapeOf s) f e
+    find-each (λ g. Either (calendarAs s g)) days s f e
     (λ i. inl refl, (λ i. inl refl, (λ i. inl refl, (λ i. inr (refl, refl), (λ i. inr (refl, refl), tt)))))
 
 pub day-exists : (s : List ℕ) (t : Tag) → Parts s t → goodTag t ≡ true → SomeDay (t .calendar)
@@ -96,7 +97,7 @@ second-exists t g =
     (secondOfDay h m s, w .low, rw (w .hour, w .minute, w .second, may-else (k .hour) 23, may-else (k .minute) 59, may-else (k .second) 0))
 
 -- ---- refused 4, and nothing else
-abbrev Only4 : {A : Type 0} → Outcome A → Type 0
+abbrev pub Only4 : {A : Type 0} → Outcome A → Type 0
 Only4 o = (n : ℕ) → o ≡ refused n → n ≡ 4
 
 four-done : {A : Type 0} (a : A) → Only4 (done a)
@@ -116,7 +117,7 @@ four-given f (refused m) h n e = h n (ap refused (refused-is m n e))
 
 find-4 : (fs : Forms) (p : List ℕ) → Only4 (find fs p)
 find-4 [] p n e = sym (refused-is 4 n e)
-find-4 (f ∷ fs) p n e = go (same (f .shape) p) (find-4 fs p) n e
+find-4 (f ∷ fs) p n e = go (fits (f .shape) p) (find-4 fs p) n e
   where
     go : (b : Bool) → Only4 (find fs p) → Only4 (cond b (done f) (find fs p))
     go true h n e = four-done f n e
@@ -132,17 +133,17 @@ time-4 fs s =
     let u = take (until 90 s) s in
     let p = until 46 u in
     four-need (leb (length s) (until 90 s + 1)) _
-    (four-then (find fs (shapeOf (take p u))) _ (find-4 fs (shapeOf (take p u))) (λ f. four-given (timed (clockAs (take p u) f)) (fractionAs (f .third) (drop p u)) (fraction-4 (f .third) (drop p u))))
+    (four-then (find fs (take p u)) _ (find-4 fs (take p u)) (λ f. four-given (daytime (clockAs (take p u) f)) (fractionAs (f .third) (drop p u)) (fraction-4 (f .third) (drop p u))))
 
 alone-4 : (s : List ℕ) → Only4 (alone s)
 unfolding alone
-alone-4 s = go (find (days ++ months) (shapeOf s))
+alone-4 s = go (find (days ++ months) s)
   where
     go : (o : Outcome Form) → Only4 (aloneBy s o)
     go (done f) = four-done (tag (calendarAs s f) midnight)
     go (refused n) = four-given (tag anyDay) (timeIn (hours ++ minutes) s) (time-4 (hours ++ minutes) s)
 
-formed-4 : (s : List ℕ) → Only4 (formed s)
+pub formed-4 : (s : List ℕ) → Only4 (formed s)
 unfolding formed joined
 formed-4 s = go (ltb (until 84 s) (length s))
   where
@@ -150,10 +151,10 @@ formed-4 s = go (ltb (until 84 s) (length s))
     go true =
         let c = take (until 84 s) s in
         let r = drop (until 84 s + 1) s in
-        four-then (find days (shapeOf c)) _ (find-4 days (shapeOf c)) (λ f. four-given (tag (calendarAs c f)) (timeIn hours r) (time-4 hours r))
+        four-then (find days c) _ (find-4 days c) (λ f. four-given (tag (calendarAs c f)) (timeIn hours r) (time-4 hours r))
     go false = alone-4 s
 
-pub tag-4 : (s : List ℕ) (n : ℕ) → 1 ≤ length s → tagOf s ≡ refused n → n ≡ 4
-unfolding tagOf
+pub tag-4 : (s : List ℕ) (n : ℕ) → 1 ≤ length s → wantOf s ≡ refused n → n ≡ 4
+unfolding wantOf
 tag-4 s n l e =
     four-then (formed s) _ (formed-4 s) (λ t. four-need (goodTag t) _ (four-done t)) n (sym (need-yes 1 _ (le-leb 1 (length s) l)) ∙ e)

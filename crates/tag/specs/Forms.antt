@@ -1,17 +1,11 @@
--- The permitted forms of shortened ASCII tags (document 01, "Shortened tags": "Calendars: YYYY-MM-DD, -MM-DD, --DD, YYYY-MM, -MM, YYYY, YYYY-DDD, -DDD. Times begin at hh, ":" mm, "::" ss or "::." and end anywhere after"). A shape is a text with 0 for any digit; every other character stands for itself.
-use mathlib.Core.Bool.{Bool, true, false, cond, _&&_}
+-- The permitted forms of shortened ASCII tags (document 01, "Shortened tags": "Calendars: YYYY-MM-DD, -MM-DD, --DD, YYYY-MM, -MM, YYYY, YYYY-DDD, -DDD. Times begin at hh, ":" mm, "::" ss or "::." and end anywhere after").
+use mathlib.Core.Bool.{cond}
 use mathlib.Core.List.{List, [], _∷_, _++_, map}
 use Prim.Native.Nat.{ℕ}
-use lib.Dec.{eqb}
 use Rattle.base.specs.Outcome.{Outcome, done, refused}
-use Rattle.octets.specs.Places.{digitGood}
-use Rattle.ascii.specs.Quoted.{bytes}
-
-abbrev pub kind : ℕ → ℕ
-kind b = cond (digitGood b) 48 b
-
-unfoldable pub shapeOf : List ℕ → List ℕ
-shapeOf s = map kind s
+use Rattle.shape.specs.Quoted.{bytes}
+use Rattle.shape.specs.Shapes.{Shapes, fits}
+use Rattle.shape.specs.Parts.{followed, perhaps, dateA, dateB, markT, fullClock, fractions, zones}
 
 -- where a field is: "Dropped on the left: .. the subfields are free. Dropped on the right: .. the subfields take their lowest value"; any other stands at a place of the text
 pub data Place : Type 0 where
@@ -36,10 +30,10 @@ Forms = List Form
 -- calendars that reach their day, and the others
 unfoldable pub days : Forms
 days =
-    form (bytes "0000-00-00") (at 0) (at 5) (at 8) free ∷
+    form dateA (at 0) (at 5) (at 8) free ∷
     form (bytes "-00-00") free (at 1) (at 4) free ∷
     form (bytes "--00") free free (at 2) free ∷
-    form (bytes "0000-000") (at 0) free free (at 5) ∷
+    form dateB (at 0) free free (at 5) ∷
     form (bytes "-000") free free free (at 1) ∷ []
 
 unfoldable pub months : Forms
@@ -53,7 +47,7 @@ unfoldable pub hours : Forms
 hours =
     form (bytes "00") (at 0) lowest lowest free ∷
     form (bytes "00:00") (at 0) (at 3) lowest free ∷
-    form (bytes "00:00:00") (at 0) (at 3) (at 6) free ∷ []
+    form fullClock (at 0) (at 3) (at 6) free ∷ []
 
 unfoldable pub minutes : Forms
 minutes =
@@ -62,13 +56,26 @@ minutes =
     form (bytes "::00") free free (at 2) free ∷
     form (bytes "::") free free free free ∷ []
 
-abbrev pub same : List ℕ → List ℕ → Bool
-same [] [] = true
-same [] (y ∷ ys) = false
-same (x ∷ xs) [] = false
-same (x ∷ xs) (y ∷ ys) = eqb x y && same xs ys
-
--- the form that has a shape; none is 4
+-- the form that a text has the shape of; none is 4
 abbrev pub find : Forms → List ℕ → Outcome Form
-find [] p = refused 4
-find (f ∷ fs) p = cond (same (f .shape) p) (done f) (find fs p)
+find [] s = refused 4
+find (f ∷ fs) s = cond (fits (f .shape) s) (done f) (find fs s)
+
+-- ---- the shapes of tags
+abbrev pub shapesOf : Forms → Shapes
+shapesOf fs = map (λ (f : Form). f .shape) fs
+
+-- what may follow a time by where its second is: a period and digits behind a second, but something after "::"; and nothing after hh or mm
+abbrev pub endings : Place → Shapes
+endings free = fractions
+endings lowest = [] ∷ []
+endings (at i) = perhaps fractions
+
+-- "Z only after a time"
+abbrev pub timeShapes : Forms → Shapes
+timeShapes [] = []
+timeShapes (f ∷ fs) = followed (f .shape ∷ []) (followed (endings (f .third)) zones) ++ timeShapes fs
+
+-- the 266 tags: a calendar or a time alone, or "Joined by T, the calendar must reach its day and the time must begin at hh"
+unfoldable pub tagShapes : Shapes
+tagShapes = shapesOf (days ++ months) ++ (timeShapes (hours ++ minutes) ++ followed (shapesOf days) (followed (markT ∷ []) (timeShapes hours)))

@@ -7,9 +7,10 @@ use lib.Dec.{ltb, eqb}
 use lib.ListN.{getD}
 use lib.Seq.{slice}
 use Rattle.base.specs.Outcome.{Outcome, done, refused}
+use Rattle.shape.specs.Shapes.{fits}
 use Rattle.seek.specs.declared.Tag.{Tag}
-use Rattle.tag.specs.Forms.{Place, free, lowest, at, Form, form, Forms, shapeOf, days, months, hours, minutes, same}
-use Rattle.tag.specs.Tags.{Timed, timed}
+use Rattle.tag.specs.Forms.{Place, free, lowest, at, Form, form, Forms, days, months, hours, minutes}
+use Rattle.tag.specs.Tags.{Daytime, daytime}
 use Rattle.tag.specs.declared.Part.{Part}
 use Rattle.tag.specs.declared.Part.the-variants as P
 use Rattle.tag.specs.declared.Time.{Time}
@@ -38,7 +39,7 @@ foundAt to i = cond (ltb i to) (done (formAt i)) (refused 4)
 -- row i is that of a text
 pub record Row (s : List ℕ) (i : ℕ) : Type 0 where
   pub row : i < 15
-  pub has : same (formAt i .shape) (shapeOf s) ≡ true
+  pub has : fits (formAt i .shape) s ≡ true
 
 -- ---- places
 -- where a byte says that a field is
@@ -60,8 +61,8 @@ abbrev pub saysPart : Part → Outcome ℕ
 saysPart (P.Good n) = done n
 saysPart P.Bad = refused 4
 
-abbrev pub saysTime : Time → Outcome Timed
-saysTime (T.Good k n) = done (timed k n)
+abbrev pub saysTime : Time → Outcome Daytime
+saysTime (T.Good k n) = done (daytime k n)
 saysTime T.Bad = refused 4
 
 abbrev pub saysParsed : Parsed → Outcome Tag

@@ -8,10 +8,10 @@ use Rattle.base.specs.Outcome.{done, refused}
 use Rattle.scale.specs.Time.{Time}
 use Rattle.leap.specs.Table.{Table}
 use Rattle.utc.specs.Reckoning.{readBy}
-use Rattle.ascii.specs.Quoted.{bytes}
-use Rattle.ascii.specs.Shapes.{shaped}
+use Rattle.shape.specs.Quoted.{bytes}
+use Rattle.shape.specs.Shapes.{same, shaped}
+use Rattle.ascii.specs.Shapes.{codeShapes}
 use Rattle.ascii.specs.Ascii.{frontOf, layoutOf, zoneText, text}
-use Rattle.tag.specs.Forms.{same}
 
 -- a subfield: the separator before it, its text, and the text of its lowest value
 pub record Subfield : Type 0 where
@@ -55,11 +55,11 @@ byClock h m x ds =
 abbrev pub clockFrom : ℕ → ℕ → List ℕ → List Subfield
 clockFrom at digits s = byClock (slice s at 2) (slice s (at + 3) 2) (slice s (at + 6) 2) (slice s (at + 9) digits)
 
-unfoldable pub calendarOf : List ℕ → List Subfield
-calendarOf s = calendarBy (layoutOf s .ordinal) s
+unfoldable pub calendarFields : List ℕ → List Subfield
+calendarFields s = calendarBy (layoutOf s .ordinal) s
 
-unfoldable pub clockOf : List ℕ → List Subfield
-clockOf s = clockFrom (frontOf (layoutOf s .ordinal) - 8) (layoutOf s .digits) s
+unfoldable pub clockFields : List ℕ → List Subfield
+clockFields s = clockFrom (frontOf (layoutOf s .ordinal) - 8) (layoutOf s .digits) s
 
 unfoldable pub zoneOf : List ℕ → List ℕ
 zoneOf s = zoneText (layoutOf s .zone)
@@ -87,16 +87,16 @@ pub record Run (l k : ℕ) (fs : List Subfield) : Type 0 where
 -- a text is a shortening of a full code, in document 01's permitted forms
 pub data Shortening (code : List ℕ) : List ℕ → Type 0 where
   -- "A calendar alone means 00:00:00"; it has no Z
-  calendar : (l k : ℕ) → Run l k (calendarOf code) → lowFrom 0 (clockOf code) ≡ true → Shortening code (cut l k (calendarOf code))
+  calendar : (l k : ℕ) → Run l k (calendarFields code) → lowFrom 0 (clockFields code) ≡ true → Shortening code (cut l k (calendarFields code))
   -- "fraction digits are not dropped on the left"
-  time : (l k : ℕ) → l ≤ 3 → Run l k (clockOf code) → Shortening code (cut l k (clockOf code) ++ zoneOf code)
+  time : (l k : ℕ) → l ≤ 3 → Run l k (clockFields code) → Shortening code (cut l k (clockFields code) ++ zoneOf code)
   -- "Joined by T, the calendar must reach its day and the time must begin at hh"
-  both : (l k : ℕ) → Run l (length (calendarOf code)) (calendarOf code) → Run 0 k (clockOf code)
-      → Shortening code (cut l (length (calendarOf code)) (calendarOf code) ++ (84 ∷ (cut 0 k (clockOf code) ++ zoneOf code)))
+  both : (l k : ℕ) → Run l (length (calendarFields code)) (calendarFields code) → Run 0 k (clockFields code)
+      → Shortening code (cut l (length (calendarFields code)) (calendarFields code) ++ (84 ∷ (cut 0 k (clockFields code) ++ zoneOf code)))
 
 -- a full code that a tag is a shortening of
 pub record Full (tag code : List ℕ) : Type 0 where
-  pub full : shaped code ≡ true
+  pub full : shaped codeShapes code ≡ true
   pub short : Shortening code tag
 
 -- the naming rule: some full code of which the tag is a shortening reads, by the table, to the moment

@@ -15,7 +15,7 @@ use Rattle.seek.specs.declared.Want.the-variants.{Free, Is}
 use Rattle.seek.specs.declared.Calendar.{Calendar}
 use Rattle.seek.specs.declared.Clock.{Clock}
 use Rattle.seek.specs.declared.Tag.{Tag}
-use Rattle.tag.specs.Forms.{Place, free, lowest, at, Form, Forms, shapeOf, days, months, hours, minutes, find}
+use Rattle.tag.specs.Forms.{Place, free, lowest, at, Form, Forms, days, months, hours, minutes, find}
 use Rattle.tag.specs.declared.TagAnswer.{TagAnswer}
 use Rattle.tag.specs.declared.TagAnswer.the-variants as A
 
@@ -57,30 +57,30 @@ fractionAs p (b ∷ ds) =
     (done (ticksOf (length ds) (decimalOf ds (length ds))))
 
 -- a clock and a tick count
-pub record Timed : Type 0 where
+pub record Daytime : Type 0 where
   pub clock : Clock
   pub ticks : ℕ
 
-abbrev pub timed : Clock → ℕ → Timed
-timed k n = record { clock = k; ticks = n }
+abbrev pub daytime : Clock → ℕ → Daytime
+daytime k n = record { clock = k; ticks = n }
 
 -- a time of one of the forms, and its fraction
-unfoldable pub unzoned : Forms → List ℕ → Outcome Timed
+unfoldable pub unzoned : Forms → List ℕ → Outcome Daytime
 unzoned fs s =
     let p = until 46 s in
-    andThen (find fs (shapeOf (take p s))) (λ f. given (timed (clockAs (take p s) f)) (fractionAs (f .third) (drop p s)))
+    andThen (find fs (take p s)) (λ f. given (daytime (clockAs (take p s) f)) (fractionAs (f .third) (drop p s)))
 
 -- "Z only after a time": nothing follows it
-unfoldable pub timeIn : Forms → List ℕ → Outcome Timed
+unfoldable pub timeIn : Forms → List ℕ → Outcome Daytime
 timeIn fs s = let e = until 90 s in need (leb (length s) (e + 1)) 4 (unzoned fs (take e s))
 
 -- ---- tags
-abbrev pub tag : Calendar → Timed → Tag
+abbrev pub tag : Calendar → Daytime → Tag
 tag c k = record { calendar = c; clock = k .clock; ticks = k .ticks }
 
 -- "A calendar alone means 00:00:00; a time alone leaves the date free"
-abbrev pub midnight : Timed
-midnight = timed (record { hour = Is 0; minute = Is 0; second = Is 0 }) 0
+abbrev pub midnight : Daytime
+midnight = daytime (record { hour = Is 0; minute = Is 0; second = Is 0 }) 0
 
 abbrev pub anyDay : Calendar
 anyDay = record { year = Free; month = Free; day = Free; ordinal = Free }
@@ -90,11 +90,11 @@ aloneBy s (done f) = done (tag (calendarAs s f) midnight)
 aloneBy s (refused n) = given (tag anyDay) (timeIn (hours ++ minutes) s)
 
 unfoldable pub alone : List ℕ → Outcome Tag
-alone s = aloneBy s (find (days ++ months) (shapeOf s))
+alone s = aloneBy s (find (days ++ months) s)
 
 -- "Joined by T, the calendar must reach its day and the time must begin at hh"
 unfoldable pub joined : List ℕ → List ℕ → Outcome Tag
-joined c k = andThen (find days (shapeOf c)) (λ f. given (tag (calendarAs c f)) (timeIn hours k))
+joined c k = andThen (find days c) (λ f. given (tag (calendarAs c f)) (timeIn hours k))
 
 unfoldable pub formed : List ℕ → Outcome Tag
 formed s = let t = until 84 s in cond (ltb t (length s)) (joined (take t s) (drop (t + 1) s)) (alone s)
@@ -120,8 +120,8 @@ abbrev pub goodTag : Tag → Bool
 goodTag t = goodDay (t .calendar) && goodClock (t .clock)
 
 -- what a text wants: "ASCII is empty" 1; "a field .. character or length breaks its rule" 4
-unfoldable pub tagOf : List ℕ → Outcome Tag
-tagOf s = need (leb 1 (length s)) 1 (andThen (formed s) (λ t. need (goodTag t) 4 (done t)))
+unfoldable pub wantOf : List ℕ → Outcome Tag
+wantOf s = need (leb 1 (length s)) 1 (andThen (formed s) (λ t. need (goodTag t) 4 (done t)))
 
 abbrev pub saysTag : TagAnswer → Outcome Tag
 saysTag (A.Done t) = done t

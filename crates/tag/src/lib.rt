@@ -12,7 +12,8 @@ ghost use Prim.Native.Nat.{_+_, _≤_, _<_};
 ghost use lib.ListN.{length, drop};
 ghost use Rattle.octets.specs.Places.{allGood, digitGood};
 ghost use Rattle.ascii.specs.Ascii.{numberAt};
-ghost use Rattle.tag.specs.Forms.{at, kind, shapeOf, same, find};
+ghost use Rattle.shape.specs.Shapes.{kindOf, fits};
+ghost use Rattle.tag.specs.Forms.{at, find};
 ghost use Rattle.tag.specs.Tags.{
   wantAt,
   calendarAs,
@@ -27,7 +28,7 @@ ghost use Rattle.tag.specs.Tags.{
   orElse,
   goodDay,
   goodClock,
-  tagOf,
+  wantOf,
   saysTag,
 };
 ghost use Rattle.tag.specs.Inner.{
@@ -97,7 +98,7 @@ const PLACES: [[u8; 4]; 15] = [
 
 // Reads a tag, which is the whole slice.
 pub fn read(s: &[u8]) -> TagAnswer
-    ensures { λ r. ⌜ saysTag r ≡ tagOf (now (s .entry)) ⌝ }
+    ensures { λ r. ⌜ saysTag r ≡ wantOf (now (s .entry)) ⌝ }
 {
     if s.len() < 1 {
         return TagAnswer::Refused(Refusal::Short);
@@ -299,7 +300,7 @@ fn until(s: &[u8], c: u8) -> usize
 // The first row from `from` on and before `to` that a text has the shape of, or `to`.
 fn form_of(s: &[u8], from: usize, to: usize) -> usize
     requires { ⌜ (from ≤ to) × (to ≤ 15) ⌝ }
-    ensures { λ r. ⌜ (from ≤ r) × (r ≤ to) × (foundAt to r ≡ find (between from to) (shapeOf (now (s .entry)))) ⌝ }
+    ensures { λ r. ⌜ (from ≤ r) × (r ≤ to) × (foundAt to r ≡ find (between from to) (now (s .entry))) ⌝ }
 {
     let mut i = from;
     while i < to {
@@ -314,7 +315,7 @@ fn form_of(s: &[u8], from: usize, to: usize) -> usize
 // Whether a text has the shape of row i.
 fn has_shape(s: &[u8], i: usize) -> bool
     requires { ⌜ i < 15 ⌝ }
-    ensures { λ r. ⌜ r ≡ same (formAt i .shape) (shapeOf (now (s .entry))) ⌝ }
+    ensures { λ r. ⌜ r ≡ fits (formAt i .shape) (now (s .entry)) ⌝ }
 {
     // the table in a local: a constant is laid out anew at each use
     let shapes = SHAPES;
@@ -346,7 +347,7 @@ fn size(i: usize) -> usize
 
 // What stands for b in a shape.
 fn kind(b: u8) -> u8
-    ensures { λ r. ⌜ r ≡ kind b ⌝ }
+    ensures { λ r. ⌜ r ≡ kindOf b ⌝ }
 {
     if (48 <= b) & (b <= 57) { 48 } else { b }
 }

@@ -21,7 +21,7 @@ use Rattle.window.specs.Window.{Named}
 use Rattle.window.proofs.Seconds.{raised-at}
 use Rattle.seek.specs.declared.Tag.{Tag}
 use Rattle.seek.specs.Naming.{names, fitsReading}
-use Rattle.tag.specs.Tags.{tagOf}
+use Rattle.tag.specs.Tags.{wantOf}
 use Rattle.tag.specs.Shortening.{Names, Nameless}
 use Rattle.tag.proofs.Naming as N
 use Rattle.tags.specs.Records.{windowed, momentsIn, IsListed, Inside, Sooner, followed}
@@ -50,7 +50,7 @@ module _ (table : Table) where
   -- what is listed is listed of a tag, of a window of records in their order, in the cover
   pub record Listed (s : List ℕ) (from to : Time) (x : Named ℤ) : Type 0 where
     pub wanted : Tag
-    pub told : tagOf s ≡ done wanted
+    pub told : wantOf s ≡ done wanted
     pub order : Ordered from to
     pub inside : covered table from to ≡ true
     pub is : moments wanted from to ≡ x
@@ -58,13 +58,13 @@ module _ (table : Table) where
   pub lists-tag : (s : List ℕ) (from to : Time) (x : Named ℤ) → listAscii table s from to ≡ done x → Listed s from to x
   unfolding listAscii listWanted
   lists-tag s from to x h =
-      let (t, (a, b)) = then-done (tagOf s) (listWanted table from to) x h in
+      let (t, (a, b)) = then-done (wantOf s) (listWanted table from to) x h in
       let (o, c) = windowed-told from to _ x b in
       let (e, d) = need-done (covered table from to) 5 _ x c in
       record { wanted = t; told = a; order = o; inside = e; is = done-is _ x d }
 
   -- a tag that is one lists something of every such window, be it nothing: it never gives 5 or 6 for its own date
-  pub lists-so : (s : List ℕ) (t : Tag) (from to : Time) → tagOf s ≡ done t → Ordered from to → covered table from to ≡ true → listAscii table s from to ≡ done (moments t from to)
+  pub lists-so : (s : List ℕ) (t : Tag) (from to : Time) → wantOf s ≡ done t → Ordered from to → covered table from to ≡ true → listAscii table s from to ≡ done (moments t from to)
   unfolding listAscii listWanted
   lists-so s t from to e o c = ap (λ (x : Outcome Tag). andThen x (listWanted table from to)) e ∙ windowed-yes from to _ o ∙ need-yes 5 _ c
 
@@ -105,7 +105,7 @@ module _ (table : Table) where
     lists-ascending = rw (← l .is) (ascends secondRaise (names table (l .wanted)) (l .wanted .ticks) from to low (l .order .in-order))
 
     -- the tick count is the tag's, also where nothing is listed
-    pub lists-ticks : (t : Tag) → tagOf s ≡ done t → x .ticks ≡ t .ticks
+    pub lists-ticks : (t : Tag) → wantOf s ≡ done t → x .ticks ≡ t .ticks
     unfolding momentsIn
     lists-ticks t e = ap (λ (y : Named ℤ). y .ticks) (sym (l .is)) ∙ ap (λ (u : Tag). u .ticks) (done-is (l .wanted) t (sym (l .told) ∙ e))
 
@@ -133,7 +133,7 @@ module _ (table : Table) where
   -- ---- refused 4, of a text that is not empty: exactly when no full code of which it is a shortening reads to anything but 4
   pub lists-4 : (s : List ℕ) (from to : Time) → 1 ≤ length s → (listAscii table s from to ≡ refused 4) ↔ Nameless s
   unfolding listAscii listWanted
-  lists-4 s from to some = (λ e. N.refused-nameless s (tag-4 (tagOf s) e), λ n. ap (λ (o : Outcome Tag). andThen o (listWanted table from to)) (N.nameless-refused s some n))
+  lists-4 s from to some = (λ e. N.refused-nameless s (tag-4 (wantOf s) e), λ n. ap (λ (o : Outcome Tag). andThen o (listWanted table from to)) (N.nameless-refused s some n))
     where
       tag-4 : (o : Outcome Tag) → andThen o (listWanted table from to) ≡ refused 4 → o ≡ refused 4
       tag-4 (done t) e = not-4 from to (covered table from to) (moments t from to) e

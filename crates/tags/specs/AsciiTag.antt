@@ -11,7 +11,7 @@ use Rattle.leap.specs.Utc.{secondRaise}
 use Rattle.window.specs.Window.{Named}
 use Rattle.seek.specs.declared.Tag.{Tag}
 use Rattle.seek.specs.Naming.{names}
-use Rattle.tag.specs.Tags.{tagOf}
+use Rattle.tag.specs.Tags.{wantOf}
 use Rattle.tags.specs.Records.{windowed, momentsIn}
 
 -- the first moment of a raised second
@@ -27,4 +27,4 @@ listWanted t from to g = windowed from to (need (covered t from to) 5 (done (mom
 
 -- "the tag as in reading up to 4"
 unfoldable pub listAscii : Table → List ℕ → Time → Time → Outcome (Named ℤ)
-listAscii t s from to = andThen (tagOf s) (listWanted t from to)
+listAscii t s from to = andThen (wantOf s) (listWanted t from to)

@@ -6,8 +6,8 @@ use native.Mathlib.Omega.{arith}
 use borrow.Author.Needs.{needs}
 use Rattle.base.specs.Outcome.{done, refused}
 use Rattle.seek.specs.declared.Calendar.{Calendar}
-use Rattle.tag.specs.Forms.{shapeOf, days, months, hours, minutes, find}
-use Rattle.tag.specs.Tags.{Timed, timed, timeIn, tag, midnight}
+use Rattle.tag.specs.Forms.{days, months, hours, minutes, find}
+use Rattle.tag.specs.Tags.{Daytime, daytime, timeIn, tag, midnight}
 use Rattle.tag.specs.Inner.{formAt, foundAt, saysTime}
 use Rattle.tag.proofs.Rows.{rows-of-calendars, rows-of-times, found-form, found-row, found-none}
 use Rattle.tag.proofs.Ladder.{alone-day, alone-bad, alone-time}
@@ -18,10 +18,10 @@ use Rattle.tag.proofs.alone.Tie as tie
 abbrev text : tie.After-form-of → List ℕ
 text c = c .before .before .args .s .now
 
-row : (c : tie.After-form-of) → foundAt 8 (c .form-of .result) ≡ find (days ++ months) (shapeOf (text c))
+row : (c : tie.After-form-of) → foundAt 8 (c .form-of .result) ≡ find (days ++ months) (text c)
 row c = rw rows-of-calendars at (c .form-of .ensures .2)
 
-none : (c : tie.Else1) → find (days ++ months) (shapeOf (text (c .before))) ≡ refused 4
+none : (c : tie.Else1) → find (days ++ months) (text (c .before)) ≡ refused 4
 none c = found-none (days ++ months) (text (c .before)) 8 (c .before .form-of .result) (row (c .before)) (omega arith)
 
 time : (c : tie.After-time-in) → saysTime (c .time-in .result) ≡ timeIn (hours ++ minutes) (text (c .before .before))
@@ -59,7 +59,7 @@ returns-3 : tie.Need-returns-3
 returns-3 c =
     let a = c .before in
     let t = a .before .before in
-    let k : Timed = timed (a .answer .given .0 .0) (a .answer .given .0 .1 .0) in
+    let k : Daytime = daytime (a .answer .given .0 .0) (a .answer .given .0 .1 .0) in
     alone-time (text (t .before .before)) (none (t .before)) k (sym (time t) ∙ ap saysTime (a .answer .given .1))
 
 pub alone-spec : {M : Type 1} → statement M

@@ -3,14 +3,14 @@ use mathlib.Core.Path.{_≡_, refl, sym, _∙_}
 use Prim.Native.Nat.{_-_, _≤_}
 use native.Mathlib.Omega.{arith}
 use borrow.Author.Needs.{needs}
-use Rattle.tag.specs.Forms.{shapeOf, find}
+use Rattle.tag.specs.Forms.{find}
 use Rattle.tag.specs.Inner.{between}
 use Rattle.tag.proofs.Rows.{find-here, find-next, find-end}
 use Rattle.tag.proofs.form_of.Statement.{statement}
 use Rattle.tag.proofs.form_of.Tie as tie
 
 abbrev Inv-loop : tie.InvT-loop
-Inv-loop s from to i₀ i = (from ≤ i) × (i ≤ to) × (find (between i to) (shapeOf s) ≡ find (between from to) (shapeOf s))
+Inv-loop s from to i₀ i = (from ≤ i) × (i ≤ to) × (find (between i to) s ≡ find (between from to) s)
 
 abbrev μ-loop : tie.MeasureT-loop
 μ-loop s from to i₀ i = to - i
@@ -25,7 +25,7 @@ returns : tie.Need-returns Inv-loop μ-loop
 returns c =
     let l = c .before .before .before in
     let a = l .before .before in
-    (omega arith, omega arith, find-here (shapeOf (a .args .s .now)) (a .args .to) (l .loop .i) (a .pre .1) (omega arith) (sym (c .before .has-shape .ensures) ∙ c .if1 .taken) ∙ l .loop .inv .2)
+    (omega arith, omega arith, find-here (a .args .s .now) (a .args .to) (l .loop .i) (a .pre .1) (omega arith) (sym (c .before .has-shape .ensures) ∙ c .if1 .taken) ∙ l .loop .inv .2)
 
 add-i : tie.Need-add-i Inv-loop μ-loop
 add-i c = search needs
@@ -37,13 +37,13 @@ loop-again : tie.Need-loop-again Inv-loop μ-loop
 loop-again c =
     let l = c .before .before .before in
     let a = l .before .before in
-    (omega arith, omega arith, sym (find-next (shapeOf (a .args .s .now)) (a .args .to) (l .loop .i) (a .pre .1) (omega arith) (sym (c .before .has-shape .ensures) ∙ c .if1 .left)) ∙ l .loop .inv .2)
+    (omega arith, omega arith, sym (find-next (a .args .s .now) (a .args .to) (l .loop .i) (a .pre .1) (omega arith) (sym (c .before .has-shape .ensures) ∙ c .if1 .left)) ∙ l .loop .inv .2)
 
 returns-2 : tie.Need-returns-2 Inv-loop μ-loop
 returns-2 c =
     let l = c .before in
     let a = l .before .before in
-    (omega arith, omega arith, find-end (shapeOf (a .args .s .now)) (a .args .to) (l .loop .i) (a .pre .1) (omega arith) (omega arith) ∙ l .loop .inv .2)
+    (omega arith, omega arith, find-end (a .args .s .now) (a .args .to) (l .loop .i) (a .pre .1) (omega arith) (omega arith) ∙ l .loop .inv .2)
 
 pub form-of-spec : {M : Type 1} → statement M
 form-of-spec =

@@ -3,7 +3,8 @@ use mathlib.Core.Path.{sym, _∙_}
 use Prim.Native.Nat.{_-_, _≤_}
 use native.Mathlib.Omega.{arith}
 use borrow.Author.Needs.{needs}
-use Rattle.tag.specs.Forms.{shapeOf, days, months, hours, minutes}
+use Rattle.shape.specs.Shapes.{shapeOf}
+use Rattle.tag.specs.Forms.{days, months, hours, minutes}
 use Rattle.tag.specs.Inner.{forms, formAt}
 use Rattle.tag.proofs.Scans.{SameFrom}
 use Rattle.tag.proofs.Rows.{row-size, row-other, row-next, row-end}

@@ -6,8 +6,8 @@ use native.Mathlib.Omega.{arith}
 use borrow.Author.Needs.{needs}
 use Rattle.base.specs.Outcome.{done}
 use Rattle.seek.specs.declared.Calendar.{Calendar}
-use Rattle.tag.specs.Forms.{shapeOf, days, hours, find}
-use Rattle.tag.specs.Tags.{Timed, timed, timeIn, tag}
+use Rattle.tag.specs.Forms.{days, hours, find}
+use Rattle.tag.specs.Tags.{Daytime, daytime, timeIn, tag}
 use Rattle.tag.specs.Inner.{formAt, foundAt, saysTime}
 use Rattle.tag.proofs.Rows.{rows-of-days, rows-of-hours, found-form, found-row, found-none}
 use Rattle.tag.proofs.Ladder.{joined-none, joined-bad, joined-done}
@@ -21,10 +21,10 @@ front c = c .before .before .before .args .c .now
 abbrev back : tie.After-form-of → List ℕ
 back c = c .before .before .before .args .k .now
 
-row : (c : tie.After-form-of) → foundAt 5 (c .form-of .result) ≡ find days (shapeOf (front c))
+row : (c : tie.After-form-of) → foundAt 5 (c .form-of .result) ≡ find days (front c)
 row c = rw rows-of-days at (c .form-of .ensures .2)
 
-own : (c : tie.Else1) → find days (shapeOf (front (c .before))) ≡ done (formAt (c .before .form-of .result))
+own : (c : tie.Else1) → find days (front (c .before)) ≡ done (formAt (c .before .form-of .result))
 own c = found-form days (front (c .before)) 5 (c .before .form-of .result) (row (c .before)) (omega arith)
 
 time : (c : tie.After-time-in) → saysTime (c .time-in .result) ≡ timeIn hours (back (c .before .before))
@@ -63,7 +63,7 @@ returns-3 c =
     let a = c .before .before in
     let t = a .before .before in
     let f = t .before .before in
-    let k : Timed = timed (a .answer .given .0 .0) (a .answer .given .0 .1 .0) in
+    let k : Daytime = daytime (a .answer .given .0 .0) (a .answer .given .0 .1 .0) in
     ap (λ (x : Calendar). done (tag x k)) (c .calendar-as .ensures)
     ∙ joined-done (front f) (back f) (formAt (f .form-of .result)) (own (t .before)) k (sym (time t) ∙ ap saysTime (a .answer .given .1))
 

@@ -8,8 +8,8 @@ use lib.ListN.{take, drop}
 use lib.Seq.{length-take-le}
 use Rattle.base.specs.Outcome.{done}
 use Rattle.seek.specs.declared.Clock.{Clock}
-use Rattle.tag.specs.Forms.{Place, shapeOf, find}
-use Rattle.tag.specs.Tags.{fractionAs, timed}
+use Rattle.tag.specs.Forms.{Place, find}
+use Rattle.tag.specs.Tags.{fractionAs, daytime}
 use Rattle.tag.specs.Inner.{formAt, between, saysPart}
 use Rattle.tag.proofs.Scans.{rest-is}
 use Rattle.tag.proofs.Rows.{found-form, found-row, found-none}
@@ -65,7 +65,7 @@ text c = slice (c .before .before)
 abbrev cut : tie.After-form-of → ℕ
 cut c = c .before .before .until .result
 
-own : (c : tie.Else1) → find (between 8 (c .before .before .before .before .before .args .to)) (shapeOf (take (cut (c .before)) (text (c .before)))) ≡ done (formAt (c .before .form-of .result))
+own : (c : tie.Else1) → find (between 8 (c .before .before .before .before .before .args .to)) (take (cut (c .before)) (text (c .before))) ≡ done (formAt (c .before .form-of .result))
 own c =
     let f = c .before in
     let to = f .before .before .before .before .args .to in
@@ -99,7 +99,7 @@ returns-3 c =
     let f = e .before in
     let to = f .before .before .before .before .args .to in
     let n = k .part .given .0 .0 in
-    ap (λ (x : Clock). done (timed x n)) (c .clock-as .ensures) ∙ unzoned-done (between 8 to) (text f) (cut f) (f .before .before .until .ensures .0) (formAt (f .form-of .result)) (own e) n (sym (part q) ∙ ap saysPart (k .part .given .1))
+    ap (λ (x : Clock). done (daytime x n)) (c .clock-as .ensures) ∙ unzoned-done (between 8 to) (text f) (cut f) (f .before .before .until .ensures .0) (formAt (f .form-of .result)) (own e) n (sym (part q) ∙ ap saysPart (k .part .given .1))
 
 pub unzoned-spec : {M : Type 1} → statement M
 unzoned-spec =

@@ -3,7 +3,7 @@ use mathlib.Core.List.{List}
 use Prim.Native.Nat.{ℕ}
 use Prim.Native.Char.{code}
 use Prim.Native.String.{String, [], _∷_}
-use Rattle.ascii.specs.Cells.{nil, cell}
+use Rattle.shape.specs.Cells.{nil, cell}
 
 abbrev pub bytes : String → List ℕ
 bytes [] = nil

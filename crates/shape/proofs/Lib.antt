@@ -1,0 +1,4 @@
+pub mod Tests
+pub mod Shapes
+pub mod Starts
+pub mod Pieces

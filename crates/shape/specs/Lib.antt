@@ -1,0 +1,4 @@
+pub mod Cells
+pub mod Quoted
+pub mod Shapes
+pub mod Parts
