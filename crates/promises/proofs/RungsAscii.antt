@@ -18,7 +18,8 @@ use Rattle.moment.specs.Moment.{moment}
 use Rattle.moment.specs.declared.Moment.{Moment}
 use Rattle.utc.specs.Reckoning.{writtenBy, reckons}
 use Rattle.utc.proofs.Laws.{moment-valid, moment-index}
-use Rattle.ascii.specs.Shapes.{shaped}
+use Rattle.shape.specs.Shapes.{shaped}
+use Rattle.ascii.specs.Shapes.{codeShapes}
 use Rattle.ascii.specs.Ascii.{isLayout, frontOf, layoutOf, numberAt, width, dayAt, clockAt, ticksOf, fieldsOf, text, codeText, partOf, bytesOf}
 use Rattle.ascii.specs.declared.Layout.{Layout}
 use Rattle.ascii.proofs.Texts.{code-width}
@@ -63,19 +64,19 @@ fields-climb l s =
 
 -- a text that is not empty, and whose characters and fields keep their rules
 abbrev upTo4 : List ℕ → List Rung
-upTo4 s = rung 1 (leb 1 (length s)) ∷ rung 4 (shaped s && (dateGood (isB s) s && clockGood s (clockIn s))) ∷ []
+upTo4 s = rung 1 (leb 1 (length s)) ∷ rung 4 (shaped codeShapes s && (dateGood (isB s) s && clockGood s (clockIn s))) ∷ []
 
 text-climbs : (s : List ℕ) → text s ≡ climb (upTo4 s) (named (layoutOf s) s)
 unfolding text
 text-climbs s =
-    ap (λ (y : Outcome Moment). need (leb 1 (length s)) 1 (need (shaped s) 4 y)) (fields-climb (layoutOf s) s)
-    ∙ ap (need (leb 1 (length s)) 1) (need-both (shaped s) (dateGood (isB s) s && clockGood s (clockIn s)) 4 (done (named (layoutOf s) s)))
+    ap (λ (y : Outcome Moment). need (leb 1 (length s)) 1 (need (shaped codeShapes s) 4 y)) (fields-climb (layoutOf s) s)
+    ∙ ap (need (leb 1 (length s)) 1) (need-both (shaped codeShapes s) (dateGood (isB s) s && clockGood s (clockIn s)) 4 (done (named (layoutOf s) s)))
 
 text-low : (s : List ℕ) → allHold (upTo4 s) ≡ true → leb (secondIn s (clockIn s)) 86400 ≡ true
 text-low s h =
     let (_, a) = and-true (leb 1 (length s)) _ h in
-    let (b, _) = and-true (shaped s && (dateGood (isB s) s && clockGood s (clockIn s))) true a in
-    let (_, c) = and-true (shaped s) (dateGood (isB s) s && clockGood s (clockIn s)) b in
+    let (b, _) = and-true (shaped codeShapes s && (dateGood (isB s) s && clockGood s (clockIn s))) true a in
+    let (_, c) = and-true (shaped codeShapes s) (dateGood (isB s) s && clockGood s (clockIn s)) b in
     let (_, d) = and-true (dateGood (isB s) s) (clockGood s (clockIn s)) c in
     le-leb _ 86400 (shows (numberAt s (clockIn s) 2) (numberAt s (clockIn s + 3) 2) (numberAt s (clockIn s + 6) 2) d .low)
 

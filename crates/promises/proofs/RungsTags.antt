@@ -25,7 +25,7 @@ use Rattle.pfield.specs.declared.Preamble.the-variants.{Front, Given}
 use Rattle.pfield.specs.declared.Layout.the-variants.{Cuc}
 use Rattle.pfield.proofs.Layouts.{laid-good}
 use Rattle.seek.specs.declared.Tag.{Tag}
-use Rattle.tag.specs.Tags.{formed, goodTag, tagOf as wantOf}
+use Rattle.tag.specs.Tags.{formed, goodTag, wantOf}
 use Rattle.tag.proofs.Witness.{tag-4}
 use Rattle.tags.specs.AsciiTag.{covered, listWanted, listAscii}
 use Rattle.tags.specs.CucTag.{Periodic, tagWith, tagIn, periodicOf, listPeriodic, listCuc}

@@ -41,8 +41,8 @@ use Rattle.window.specs.Seconds.{firstSecond}
 use Rattle.window.specs.Window.{listed, namedIn, filter, consIf, range, up}
 use Rattle.counter.specs.Counter.{names as counted}
 use Rattle.seek.specs.Naming.{dayFits, clockFits, names}
-use Rattle.tag.specs.Forms.{shapeOf, days, months, hours, minutes}
-use Rattle.tag.specs.Tags.{calendarAs, clockAs, unzoned, timeIn, alone, joined, formed, goodDay, goodClock, tagOf}
+use Rattle.tag.specs.Forms.{days, months, hours, minutes}
+use Rattle.tag.specs.Tags.{calendarAs, clockAs, unzoned, timeIn, alone, joined, formed, goodDay, goodClock, wantOf}
 use Rattle.tags.specs.Records.{startAt, momentsIn}
 use Rattle.tags.specs.CucTag as K
 use Rattle.tags.specs.AsciiTag as AsciiTag
@@ -156,7 +156,7 @@ counts = refl
 
 -- "::60" over the five seconds around 2016-12-31T23:59:60
 sixties : given (listed (lent 2)) (listBy builtin (P.letters (bytes "::60")) (time (pos 1861920034) 0) (time (pos 1861920039) 0)) ≡ done (record { ticks = 0; count = 1; more = false })
-unfolding good within timeOf momentOf isMoment L.utcOfSecond L.readingOf L.liftedBy L.secondOfUtc L.secondOf readingAt coversSecond dayHolding secondAt covers dayLength start offset builtin kind yearStart yearsTo row monthLength isDate isOrdinal dayIndex ordinalOn dateIn indexOfDate indexOfOrdinal indexOfDay ordinalAt calendarAs clockAs unzoned timeIn alone joined formed goodDay goodClock tagOf names dayFits clockFits AsciiTag.covered AsciiTag.listWanted AsciiTag.listAscii shapeOf days months hours minutes startAt momentsIn firstSecond namedIn filter consIf range up listed
+unfolding good within timeOf momentOf isMoment L.utcOfSecond L.readingOf L.liftedBy L.secondOfUtc L.secondOf readingAt coversSecond dayHolding secondAt covers dayLength start offset builtin kind yearStart yearsTo row monthLength isDate isOrdinal dayIndex ordinalOn dateIn indexOfDate indexOfOrdinal indexOfDay ordinalAt calendarAs clockAs unzoned timeIn alone joined formed goodDay goodClock wantOf names dayFits clockFits AsciiTag.covered AsciiTag.listWanted AsciiTag.listAscii shapeOf days months hours minutes startAt momentsIn firstSecond namedIn filter consIf range up listed
 sixties = refl
 
 -- ---- each call ends with a result, and each is refused: among them all nine numbers
@@ -171,7 +171,7 @@ results : answers
     ∷ P.readBinary (0x1c ∷ 0x6e ∷ 0xfa ∷ 0xa5 ∷ 0x24 ∷ []) true 0 (pos 0) ∷ P.writeBinary leap true 0x1c (pos 0) room ∷ P.readAscii (bytes "2016-12-31T23:59:60") ∷ P.writeAscii leap (layout 12) room ∷ P.writeWall leap room
     ∷ P.listCuc (16 ∷ 0 ∷ []) true 0 (pos 0) (time (pos 0) 0) (time (pos 9) 0) ∷ P.listAscii (bytes "::60") leap leap ∷ [])
     ≡ replicate 15 0
-unfolding good within allows laid laidAs cucLaid cdsLaid ccsLaid headedOf scanIn scanOf writeOf roomed countOf U.isWidth U.width U.field U.holds U.inOctets U.bytesOf A.width A.layoutOf A.dayAt A.clockAt A.fieldsOf A.text A.dayText A.clockText A.codeText A.bytesOf lettersOf shaped shapeOf codeShapes timeOf momentOf isMoment L.utcOfSecond L.readingOf L.liftedBy L.secondOfUtc L.secondOf readingAt coversSecond dayHolding secondAt covers dayLength start offset builtin kind yearStart yearsTo row monthLength isDate isOrdinal dayIndex ordinalOn dateIn indexOfDate indexOfOrdinal indexOfDay ordinalAt K.tagWith K.tagIn K.periodicOf K.listPeriodic K.listCuc startAt momentsIn firstSecond counted namedIn filter consIf range up calendarAs clockAs unzoned timeIn alone joined formed goodDay goodClock tagOf names dayFits clockFits AsciiTag.covered AsciiTag.listWanted AsciiTag.listAscii shapeOf days months hours minutes
+unfolding good within allows laid laidAs cucLaid cdsLaid ccsLaid headedOf scanIn scanOf writeOf roomed countOf U.isWidth U.width U.field U.holds U.inOctets U.bytesOf A.width A.layoutOf A.dayAt A.clockAt A.fieldsOf A.text A.dayText A.clockText A.codeText A.bytesOf lettersOf shaped shapeOf codeShapes timeOf momentOf isMoment L.utcOfSecond L.readingOf L.liftedBy L.secondOfUtc L.secondOf readingAt coversSecond dayHolding secondAt covers dayLength start offset builtin kind yearStart yearsTo row monthLength isDate isOrdinal dayIndex ordinalOn dateIn indexOfDate indexOfOrdinal indexOfDay ordinalAt K.tagWith K.tagIn K.periodicOf K.listPeriodic K.listCuc startAt momentsIn firstSecond counted namedIn filter consIf range up calendarAs clockAs unzoned timeIn alone joined formed goodDay goodClock wantOf names dayFits clockFits AsciiTag.covered AsciiTag.listWanted AsciiTag.listAscii days months hours minutes
 results = refl
 
 refusals : answers
@@ -179,5 +179,5 @@ refusals : answers
     ∷ P.readBinary (0x1c ∷ 0x6e ∷ []) true 0 (pos 0) ∷ P.writeBinary leap true 0x60 (pos 0) room ∷ P.readAscii (bytes "2016-12-31T12:00:60") ∷ P.writeAscii leap (layout 13) room ∷ P.writeWall leap (7 ∷ [])
     ∷ P.listCuc (16 ∷ 0 ∷ []) true 0 (pos 0) (time (pos 9) 0) (time (pos 0) 0) ∷ P.listAscii (bytes "::60") early leap ∷ [])
     ≡ 7 ∷ 7 ∷ 4 ∷ 7 ∷ 4 ∷ 7 ∷ 5 ∷ 6 ∷ 1 ∷ 2 ∷ 4 ∷ 3 ∷ 8 ∷ 9 ∷ 5 ∷ []
-unfolding good within allows laid laidAs cucLaid cdsLaid ccsLaid headedOf scanIn scanOf writeOf roomed countOf U.isWidth U.width U.field U.holds U.inOctets U.bytesOf A.width A.layoutOf A.dayAt A.clockAt A.fieldsOf A.text A.dayText A.clockText A.codeText A.bytesOf lettersOf shaped shapeOf codeShapes timeOf momentOf isMoment L.utcOfSecond L.readingOf L.liftedBy L.secondOfUtc L.secondOf readingAt coversSecond dayHolding secondAt covers dayLength start offset builtin kind yearStart yearsTo row monthLength isDate isOrdinal dayIndex ordinalOn dateIn indexOfDate indexOfOrdinal indexOfDay ordinalAt K.tagWith K.tagIn K.periodicOf K.listPeriodic K.listCuc startAt momentsIn firstSecond counted namedIn filter consIf range up calendarAs clockAs unzoned timeIn alone joined formed goodDay goodClock tagOf names dayFits clockFits AsciiTag.covered AsciiTag.listWanted AsciiTag.listAscii shapeOf days months hours minutes
+unfolding good within allows laid laidAs cucLaid cdsLaid ccsLaid headedOf scanIn scanOf writeOf roomed countOf U.isWidth U.width U.field U.holds U.inOctets U.bytesOf A.width A.layoutOf A.dayAt A.clockAt A.fieldsOf A.text A.dayText A.clockText A.codeText A.bytesOf lettersOf shaped shapeOf codeShapes timeOf momentOf isMoment L.utcOfSecond L.readingOf L.liftedBy L.secondOfUtc L.secondOf readingAt coversSecond dayHolding secondAt covers dayLength start offset builtin kind yearStart yearsTo row monthLength isDate isOrdinal dayIndex ordinalOn dateIn indexOfDate indexOfOrdinal indexOfDay ordinalAt K.tagWith K.tagIn K.periodicOf K.listPeriodic K.listCuc startAt momentsIn firstSecond counted namedIn filter consIf range up calendarAs clockAs unzoned timeIn alone joined formed goodDay goodClock wantOf names dayFits clockFits AsciiTag.covered AsciiTag.listWanted AsciiTag.listAscii days months hours minutes
 refusals = refl

@@ -9,7 +9,8 @@ use Rattle.scale.specs.Time.{Time, isRecord}
 use Rattle.calendar.specs.Gregorian.{isDate, isOrdinal, dayIndex, dayOfYear, fromEpoch}
 use Rattle.leap.specs.Table.{Table}
 use Rattle.clock.specs.Clock.{clockOk, secondOfDay}
-use Rattle.ascii.specs.Shapes.{shaped}
+use Rattle.shape.specs.Shapes.{shaped}
+use Rattle.ascii.specs.Shapes.{codeShapes}
 use Rattle.ascii.specs.Ascii.{frontOf, layoutOf, numberAt, width}
 use Rattle.ascii.specs.declared.Layout.{Layout}
 use Rattle.promises.specs.Rungs.{Rung, rung}
@@ -45,7 +46,7 @@ dayIn s = fromEpoch (indexIn (isB s) s)
 abbrev pub readAsciiRungs : Table → List ℕ → List Rung
 readAsciiRungs t s =
     rung 1 (leb 1 (length s)) ∷
-    rung 4 (shaped s && (dateGood (isB s) s && clockGood s (clockIn s))) ∷
+    rung 4 (shaped codeShapes s && (dateGood (isB s) s && clockGood s (clockIn s))) ∷
     rung 5 (coveredDay t (dayIn s)) ∷
     rung 6 (hasSecond t (dayIn s) (secondIn s (clockIn s))) ∷ []
 
