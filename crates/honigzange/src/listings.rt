@@ -7,8 +7,8 @@ ghost use Rattle.window.specs.Window.{saysListing};
 ghost use Rattle.leap.specs.Builtin.{builtin};
 ghost use Rattle.pfield.specs.PField.{octet};
 ghost use Rattle.codes.specs.Writing.{from};
-ghost use Rattle.tags.specs.CucTag.{listCuc};
-ghost use Rattle.tags.specs.AsciiTag.{listAscii};
+ghost use Rattle.listing.specs.CucTag.{listCuc};
+ghost use Rattle.listing.specs.AsciiTag.{listAscii};
 ghost use Rattle.honigzange.specs.Cells.{time, listedTicks, listedCount, listedMore};
 ghost use Rattle.honigzange.specs.Contracts as Contract;
 
@@ -39,7 +39,7 @@ pub extern "C" fn hz_list_cuc(
         ticks: endticks,
     };
     let preamble = super::preambles::preamble_of(front, p);
-    let a = tags::list_cuc(tag, preamble, epoch, since, before, list);
+    let a = listing::list_cuc(tag, preamble, epoch, since, before, list);
     give(a, ticks, count, more)
 }
 
@@ -66,7 +66,7 @@ pub extern "C" fn hz_list_ascii(
         sec: end,
         ticks: endticks,
     };
-    let a = tags::list_ascii(tag, since, before, list);
+    let a = listing::list_ascii(tag, since, before, list);
     give(a, ticks, count, more)
 }
 

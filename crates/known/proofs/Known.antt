@@ -25,8 +25,8 @@ use Rattle.pfield.specs.PField.{allows, laid, laidAs, cucLaid, cdsLaid, ccsLaid
 use Rattle.codes.specs.Reading.{scanIn, scanOf}
 use Rattle.codes.specs.Writing.{writeOf}
 use Rattle.codes.specs.Text.{letters}
-use Rattle.tags.specs.Records.{startAt, momentsIn}
-use Rattle.tags.specs.CucTag.{tagWith, tagIn, periodicOf, listPeriodic, listCuc}
+use Rattle.listing.specs.Records.{startAt, momentsIn}
+use Rattle.listing.specs.CucTag.{tagWith, tagIn, periodicOf, listPeriodic, listCuc}
 use Rattle.known.specs.Known.{Line, answer, table}
 
 pub known-times : map (λ (l : Line). answer (l .call)) table ≡ map (λ (l : Line). l .says) table

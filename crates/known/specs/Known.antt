@@ -17,7 +17,7 @@ use Rattle.pfield.specs.PField.{octet}
 use Rattle.pfield.specs.declared.Preamble.the-variants.{Front}
 use Rattle.codes.specs.declared.setting.Setting.{Setting}
 use Rattle.codes.specs.declared.setting.Setting.the-variants.{Binary, Ascii}
-use Rattle.tags.specs.CucTag.{listCuc}
+use Rattle.listing.specs.CucTag.{listCuc}
 
 -- ---- calls and answers
 -- a call: of what, and with how much lent memory

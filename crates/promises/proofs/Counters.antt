@@ -25,8 +25,8 @@ use Rattle.pfield.specs.declared.Preamble.{Preamble}
 use Rattle.pfield.specs.declared.Preamble.the-variants.{Front, Given}
 use Rattle.pfield.specs.declared.Layout.{Layout}
 use Rattle.pfield.specs.declared.Layout.the-variants.{Cuc, Cds, Ccs}
-use Rattle.tags.specs.CucTag.{Periodic, periodicOf, Names}
-use Rattle.tags.proofs.CucPromises.{Made, made-apart, made-front}
+use Rattle.listing.specs.CucTag.{Periodic, periodicOf, Names}
+use Rattle.listing.proofs.CucPromises.{Made, made-apart, made-front}
 use Rattle.promises.specs.Octet.{octetIn, coarse}
 use Rattle.promises.specs.Promises.{Counted}
 use Rattle.promises.specs.RungsBinary.{octetRungs, cucOf, cdsOf, ccsOf, layoutOf}

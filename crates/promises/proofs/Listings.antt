@@ -17,9 +17,9 @@ use Rattle.leap.specs.Table.{Table}
 use Rattle.utc.specs.Reckoning.{reckons}
 use Rattle.window.specs.Among.{Among, here, there, Ascending, first}
 use Rattle.window.specs.Window.{Listed, Named, listed, listFilled, leaves}
-use Rattle.tags.specs.Records.{IsListed, Sooner}
-use Rattle.tags.proofs.CucPromises as C
-use Rattle.tags.proofs.AsciiPromises as A
+use Rattle.listing.specs.Records.{IsListed, Sooner}
+use Rattle.listing.proofs.CucPromises as C
+use Rattle.listing.proofs.AsciiPromises as A
 use Rattle.promises.proofs.Counters.{counted-names}
 use Rattle.promises.specs.Promises.{Shortened, counter, letters, listBy, Wanted, Lists}
 

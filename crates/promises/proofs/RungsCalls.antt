@@ -17,8 +17,8 @@ use Rattle.codes.specs.Setting.{asciiOf, wallOf}
 use Rattle.pfield.specs.PField.{octet}
 use Rattle.pfield.specs.declared.PField.{PField}
 use Rattle.pfield.specs.declared.Preamble.{Preamble}
-use Rattle.tags.specs.CucTag.{listCuc}
-use Rattle.tags.specs.AsciiTag.{listAscii}
+use Rattle.listing.specs.CucTag.{listCuc}
+use Rattle.listing.specs.AsciiTag.{listAscii}
 use Rattle.promises.specs.Promises as P
 use Rattle.promises.specs.Rungs.{Rung, numbered, Exactly}
 use Rattle.promises.specs.RungsScale.{differenceRungs, shiftRungs}

@@ -24,11 +24,11 @@ use Rattle.pfield.specs.declared.Preamble.{Preamble}
 use Rattle.pfield.specs.declared.Preamble.the-variants.{Front, Given}
 use Rattle.pfield.specs.declared.Layout.the-variants.{Cuc}
 use Rattle.pfield.proofs.Layouts.{laid-good}
-use Rattle.seek.specs.declared.Tag.{Tag}
+use Rattle.seek.specs.declared.Wants.{Wants}
 use Rattle.tag.specs.Tags.{formed, goodTag, wantOf}
 use Rattle.tag.proofs.Witness.{tag-4}
-use Rattle.tags.specs.AsciiTag.{covered, listWanted, listAscii}
-use Rattle.tags.specs.CucTag.{Periodic, tagWith, tagIn, periodicOf, listPeriodic, listCuc}
+use Rattle.listing.specs.AsciiTag.{covered, listWanted, listAscii}
+use Rattle.listing.specs.CucTag.{Periodic, tagWith, tagIn, periodicOf, listPeriodic, listCuc}
 use Rattle.promises.specs.Octet.{unextended}
 use Rattle.promises.specs.Rungs.{Rung, rung}
 use Rattle.promises.specs.RungsBinary.{cucEpochGood, cucOf, octetsOf}
@@ -105,7 +105,7 @@ list-cuc-rungs s (Given p) e from to =
     ∙ tag-then s 0 (listPeriodic from to) _ (periodic-rungs from to) p e
 
 -- ---- ASCII tags
-wanted-rungs : (t : Table) (from to : Time) (g : Tag) → verdict (listWanted t from to g) ≡ under (windowRungs from to) (judged (rung 5 (inCover t from to) ∷ []))
+wanted-rungs : (t : Table) (from to : Time) (g : Wants) → verdict (listWanted t from to g) ≡ under (windowRungs from to) (judged (rung 5 (inCover t from to) ∷ []))
 unfolding listWanted covered
 wanted-rungs t from to g =
     step (isRecord from) 7 _ _ (λ f. step (isRecord to) 7 _ _ (λ k. step (inOrder from to) 9 _ _ (λ o. step (inCover t from to) 5 _ _ (λ c. refl))))
@@ -115,9 +115,9 @@ form-4 : (s : List ℕ) → leb 1 (length s) ≡ true → (n : ℕ) → formed s
 unfolding wantOf
 form-4 s some n e =
     tag-4 s n (leb-true 1 (length s) some)
-    (need-yes 1 _ some ∙ ap (λ (x : Outcome Tag). andThen x (λ t. need (goodTag t) 4 (done t))) e)
+    (need-yes 1 _ some ∙ ap (λ (x : Outcome Wants). andThen x (λ t. need (goodTag t) 4 (done t))) e)
 
-tag-rung : {B : Type 0} (x : Outcome Tag) (k : Tag → Outcome B) (m : Outcome (Unit {0})) → ((n : ℕ) → x ≡ refused n → n ≡ 4) → ((t : Tag) → verdict (k t) ≡ m) → verdict (andThen (andThen x (λ t. need (goodTag t) 4 (done t))) k) ≡ need (isTag x) 4 m
+tag-rung : {B : Type 0} (x : Outcome Wants) (k : Wants → Outcome B) (m : Outcome (Unit {0})) → ((n : ℕ) → x ≡ refused n → n ≡ 4) → ((t : Wants) → verdict (k t) ≡ m) → verdict (andThen (andThen x (λ t. need (goodTag t) 4 (done t))) k) ≡ need (isTag x) 4 m
 tag-rung (done t) k m f g = rise (goodTag t) 4 (done t) k m (λ h. g t)
 tag-rung (refused n) k m f g = ap refused (f n refl)
 

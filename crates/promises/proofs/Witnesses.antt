@@ -43,9 +43,9 @@ use Rattle.counter.specs.Counter.{names as counted}
 use Rattle.seek.specs.Naming.{dayFits, clockFits, names}
 use Rattle.tag.specs.Forms.{days, months, hours, minutes}
 use Rattle.tag.specs.Tags.{calendarAs, clockAs, unzoned, timeIn, alone, joined, formed, goodDay, goodClock, wantOf}
-use Rattle.tags.specs.Records.{startAt, momentsIn}
-use Rattle.tags.specs.CucTag as K
-use Rattle.tags.specs.AsciiTag as AsciiTag
+use Rattle.listing.specs.Records.{startAt, momentsIn}
+use Rattle.listing.specs.CucTag as K
+use Rattle.listing.specs.AsciiTag as AsciiTag
 use Rattle.promises.specs.Promises as P
 use Rattle.promises.specs.RungsCalendar.{coveredDay, coveredSecond, hasSecond}
 use Rattle.promises.specs.Promises.{Call, outcomeOf, readUnder, OfSetting, Yields, Ready, Holds, counter, listBy}

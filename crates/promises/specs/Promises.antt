@@ -34,9 +34,9 @@ use Rattle.codes.specs.declared.setting.Setting.the-variants.{Binary, Ascii}
 use Rattle.window.specs.Among.{Among, Ascending}
 use Rattle.window.specs.Window.{Listed, Named}
 use Rattle.tag.specs.Shortening as A
-use Rattle.tags.specs.Records.{Inside, Sooner}
-use Rattle.tags.specs.CucTag as C
-use Rattle.tags.specs.AsciiTag as T
+use Rattle.listing.specs.Records.{Inside, Sooner}
+use Rattle.listing.specs.CucTag as C
+use Rattle.listing.specs.AsciiTag as T
 use Rattle.promises.specs.Octet.{octetIn, coarse}
 
 -- ---- "Every entry point takes any bytes, any record, any settings and any room"

@@ -13,7 +13,7 @@ use Rattle.pfield.specs.PField.{ident, allows}
 use Rattle.pfield.specs.declared.Codes.the-variants as Codes
 use Rattle.pfield.specs.declared.Preamble.{Preamble}
 use Rattle.pfield.specs.declared.Layout.the-variants.{Cuc}
-use Rattle.seek.specs.declared.Tag.{Tag}
+use Rattle.seek.specs.declared.Wants.{Wants}
 use Rattle.tag.specs.Tags.{formed, goodTag}
 use Rattle.promises.specs.Octet.{octetThere, octetIn, fieldAt, unextended}
 use Rattle.promises.specs.Rungs.{Rung, rung}
@@ -48,7 +48,7 @@ listCucRungs s p e from to =
 
 -- ---- ASCII tags
 -- the text has one of the permitted forms, and its fields are in their ranges
-abbrev pub isTag : Outcome Tag → Bool
+abbrev pub isTag : Outcome Wants → Bool
 isTag (done t) = goodTag t
 isTag (refused n) = false
 

@@ -15,7 +15,7 @@ use Rattle.leap.proofs.Outcomes.{second-done}
 use Rattle.leap.proofs.Promises.{second-then-reading}
 use Rattle.window.specs.Window.{None}
 use Rattle.seek.specs.Naming.{dayFits, clockFits, fitsReading, names, coversWindow}
-use Rattle.seek.specs.declared.Tag.{Tag}
+use Rattle.seek.specs.declared.Wants.{Wants}
 
 -- the covered days have no gap
 pub covers-between : (t : Table) (a b d : ℕ) → covers t a ≡ true → covers t b ≡ true → a ≤ d → d ≤ b → covers t d ≡ true
@@ -45,7 +45,7 @@ module _ (from to : ℕ) where
   pub window-after : pastRaised < to → coversWindow builtin from to ≡ false
   window-after h = covered-window from to ∙ and-false (leb firstRaised from) (leb to pastRaised) (lt-leb to pastRaised h)
 
-module _ (t : Table) (ok : good t ≡ true) (g : Tag) (d : ℕ) (in-table : covers t d ≡ true) where
+module _ (t : Table) (ok : good t ≡ true) (g : Wants) (d : ℕ) (in-table : covers t d ≡ true) where
   pub named-at : (x : ℕ) → x < dayLength t d → names t g (start t d + x) ≡ (dayFits (g .calendar) d && clockFits (g .clock) x)
   unfolding names start
   named-at x h =

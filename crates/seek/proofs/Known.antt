@@ -10,10 +10,10 @@ use Rattle.window.specs.Window.{Named, up, range, consIf, filter, namedIn}
 use Rattle.seek.specs.Naming.{dayFits, clockFits, names, coversWindow, listOf}
 use Rattle.seek.specs.declared.Want.{Want}
 use Rattle.seek.specs.declared.Want.the-variants.{Free, Is}
-use Rattle.seek.specs.declared.Tag.{Tag}
+use Rattle.seek.specs.declared.Wants.{Wants}
 
-abbrev tag : Want → Want → Want → Want → Want → Want → Want → Tag
-tag y mo d o h mi s =
+abbrev wants : Want → Want → Want → Want → Want → Want → Want → Wants
+wants y mo d o h mi s =
     record { calendar = record { year = y; month = mo; day = d; ordinal = o }; clock = record { hour = h; minute = mi; second = s }; ticks = 7 }
 
 abbrev told : List ℤ → Outcome (Named ℤ)
@@ -21,12 +21,12 @@ told all = done (record { ticks = 7; all = all })
 
 -- of the seconds 23:59:58 to 00:00:01: "::60", "-366T23:59:60", "-12-31T23:59:59", ":00:00", "2016" with all else free, "-02-29"
 around : map (λ g. listOf builtin g 63618825698 63618825702) (
-    tag Free Free Free Free Free Free (Is 60) ∷
-    tag Free Free Free (Is 366) (Is 23) (Is 59) (Is 60) ∷
-    tag Free (Is 12) (Is 31) Free (Is 23) (Is 59) (Is 59) ∷
-    tag Free Free Free Free Free (Is 0) (Is 0) ∷
-    tag (Is 2016) Free Free Free Free Free Free ∷
-    tag Free (Is 2) (Is 29) Free Free Free Free ∷ []) ≡
+    wants Free Free Free Free Free Free (Is 60) ∷
+    wants Free Free Free (Is 366) (Is 23) (Is 59) (Is 60) ∷
+    wants Free (Is 12) (Is 31) Free (Is 23) (Is 59) (Is 59) ∷
+    wants Free Free Free Free Free (Is 0) (Is 0) ∷
+    wants (Is 2016) Free Free Free Free Free Free ∷
+    wants Free (Is 2) (Is 29) Free Free Free Free ∷ []) ≡
     told (pos 1861920036 ∷ []) ∷
     told (pos 1861920036 ∷ []) ∷
     told (pos 1861920035 ∷ []) ∷

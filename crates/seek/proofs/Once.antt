@@ -8,7 +8,7 @@ use Rattle.window.specs.Window.{Lists}
 use Rattle.window.specs.declared.Listing.{Listing}
 use Rattle.window.proofs.Once.{lists-once}
 use Rattle.seek.specs.Naming.{listOf}
-use Rattle.seek.specs.declared.Tag.{Tag}
+use Rattle.seek.specs.declared.Wants.{Wants}
 
-pub list-once : (g : Tag) (from to : ℕ) (entry exit exit' : List ℤ) (r r' : Listing) → Lists (listOf builtin g from to) entry exit r → Lists (listOf builtin g from to) entry exit' r' → (r ≡ r') × (exit ≡ exit')
+pub list-once : (g : Wants) (from to : ℕ) (entry exit exit' : List ℤ) (r r' : Listing) → Lists (listOf builtin g from to) entry exit r → Lists (listOf builtin g from to) entry exit' r' → (r ≡ r') × (exit ≡ exit')
 list-once g from to = lists-once (listOf builtin g from to)

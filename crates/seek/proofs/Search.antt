@@ -13,7 +13,7 @@ use Rattle.window.specs.Window.{None}
 use Rattle.window.proofs.Moments.{Least, le-or-lt}
 use Rattle.seek.specs.Naming.{dayFits, clockFits, names}
 use Rattle.seek.specs.Inner.{Skips}
-use Rattle.seek.specs.declared.Tag.{Tag}
+use Rattle.seek.specs.declared.Wants.{Wants}
 use Rattle.seek.proofs.Days.{day-none, second-none, fits-named}
 
 module _ (t : Table) (ok : good t ≡ true) where
@@ -21,7 +21,7 @@ module _ (t : Table) (ok : good t ≡ true) where
   pub read-is : (s : ℕ) (r : Reading) → readingAt t s ≡ done r → Second t ok (r .day) (r .second) s
   read-is s r e = second-is t ok (r .day) (r .second) s (reading-then-second t ok s r e .0)
 
-  module _ (g : Tag) (from to : ℕ) where
+  module _ (g : Wants) (from to : ℕ) where
     -- nothing of the window is named before second x of day d, and its begin lies before the day's end
     pub record Searched (d x : ℕ) : Type 0 where
       pub on : from ≤ start t d + x

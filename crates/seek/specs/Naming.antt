@@ -16,7 +16,7 @@ use Rattle.seek.specs.declared.Want.{Want}
 use Rattle.seek.specs.declared.Want.the-variants.{Free, Is}
 use Rattle.seek.specs.declared.Calendar.{Calendar}
 use Rattle.seek.specs.declared.Clock.{Clock}
-use Rattle.seek.specs.declared.Tag.{Tag}
+use Rattle.seek.specs.declared.Wants.{Wants}
 
 -- a free field may be anything
 abbrev pub may : Want → ℕ → Bool
@@ -32,12 +32,12 @@ dayFits c n =
 unfoldable pub clockFits : Clock → ℕ → Bool
 clockFits k x = may (k .hour) (minuteOf x / 60) && (may (k .minute) (minuteOf x % 60) && may (k .second) (x - minuteOf x * 60))
 
-abbrev pub fitsReading : Tag → Outcome Reading → Bool
+abbrev pub fitsReading : Wants → Outcome Reading → Bool
 fitsReading t (done u) = dayFits (t .calendar) (u .day) && clockFits (t .clock) (u .second)
 fitsReading t (refused n) = false
 
 -- a raised TAI second whose UTC reading has the wanted fields; a second outside the table has none
-unfoldable pub names : Table → Tag → ℕ → Bool
+unfoldable pub names : Table → Wants → ℕ → Bool
 names t g s = fitsReading g (readingAt t s)
 
 -- the window lies in the cover: from its first second to the first one past it
@@ -45,6 +45,6 @@ unfoldable pub coversWindow : Table → ℕ → ℕ → Bool
 coversWindow t from to = leb (start t (t .first .day)) from && leb to (start t (t .last + 1))
 
 -- all that is named from `from` on and before `to`; a window that leaves the cover is 5
-unfoldable pub listOf : Table → Tag → ℕ → ℕ → Outcome (Named ℤ)
+unfoldable pub listOf : Table → Wants → ℕ → ℕ → Outcome (Named ℤ)
 listOf t g from to =
     need (coversWindow t from to) 5 (done (record { ticks = g .ticks; all = map (loweredBy secondRaise) (namedIn (names t g) from to) }))

@@ -43,16 +43,16 @@ pub struct Clock {
     pub second: Want,
 }
 
-// The fields that a shortened tag wants, and its tick count.
-pub struct Tag {
+// The fields that moments are wanted with, and their tick count.
+pub struct Wants {
     pub calendar: Calendar,
     pub clock: Clock,
     pub ticks: u64,
 }
 
 // Lists the moments that have the wanted fields, from `from` on and before `to`.
-pub fn list(tag: Tag, from: u64, to: u64, out: &mut [i64]) -> Listing
-    ensures { λ r. ⌜ Lists (listOf builtin tag from to) (now (out .entry)) (now (out .exit)) r ⌝ }
+pub fn list(wants: Wants, from: u64, to: u64, out: &mut [i64]) -> Listing
+    ensures { λ r. ⌜ Lists (listOf builtin wants from to) (now (out .entry)) (now (out .exit)) r ⌝ }
 {
     if from < leap::FIRST_RAISED {
         return Listing::Refused(Refusal::Uncovered);
@@ -62,35 +62,35 @@ pub fn list(tag: Tag, from: u64, to: u64, out: &mut [i64]) -> Listing
     }
     if to <= from {
         return Listing::Done {
-            ticks: tag.ticks,
+            ticks: wants.ticks,
             count: 0,
             more: false,
         };
     }
     let last = reading_of(to - 1);
-    run(tag, from, to, last, out)
+    run(wants, from, to, last, out)
 }
 
 // Searches again and again, each time from one second past the last moment found. The window's last second has the
 // reading `last`.
-fn run(tag: Tag, from: u64, to: u64, last: Reading, out: &mut [i64]) -> Listing
+fn run(wants: Wants, from: u64, to: u64, last: Reading, out: &mut [i64]) -> Listing
     requires { ⌜ (firstRaised ≤ from) × (to ≤ pastRaised) × (readingAt builtin (to - 1) ≡ done last) ⌝ }
-    ensures { λ r. ⌜ Lists (done (record { ticks = tag .ticks; all = map (loweredBy secondRaise) (namedIn (names builtin tag) from to) })) (now (out .entry)) (now (out .exit)) r ⌝ }
+    ensures { λ r. ⌜ Lists (done (record { ticks = wants .ticks; all = map (loweredBy secondRaise) (namedIn (names builtin wants) from to) })) (now (out .entry)) (now (out .exit)) r ⌝ }
 {
     let mut at = from;
     let mut n: usize = 0;
     loop {
-        let f = next(tag, at, to, last);
+        let f = next(wants, at, to, last);
         let Found::At(x) = f else {
             return Listing::Done {
-                ticks: tag.ticks,
+                ticks: wants.ticks,
                 count: n,
                 more: false,
             };
         };
         if n == out.len() {
             return Listing::Done {
-                ticks: tag.ticks,
+                ticks: wants.ticks,
                 count: n,
                 more: true,
             };
@@ -104,9 +104,9 @@ fn run(tag: Tag, from: u64, to: u64, last: Reading, out: &mut [i64]) -> Listing
 
 // The first moment from `from` on and before `to`. A day's begin and length are asked only of a day that fits, and its
 // seconds are looked at up to its end or the window's.
-fn next(tag: Tag, from: u64, to: u64, last: Reading) -> Found
+fn next(wants: Wants, from: u64, to: u64, last: Reading) -> Found
     requires { ⌜ (firstRaised ≤ from) × (to ≤ pastRaised) × (readingAt builtin (to - 1) ≡ done last) ⌝ }
-    ensures { λ r. ⌜ r ≡ firstOf (namedIn (names builtin tag) from to) ⌝ }
+    ensures { λ r. ⌜ r ≡ firstOf (namedIn (names builtin wants) from to) ⌝ }
 {
     if to <= from {
         return Found::Nothing;
@@ -118,11 +118,11 @@ fn next(tag: Tag, from: u64, to: u64, last: Reading) -> Found
         if last.day < day {
             break 'days Found::Nothing;
         }
-        if day_fits(tag.calendar, day) {
+        if day_fits(wants.calendar, day) {
             let span = span_of(day);
             let end = lesser(span.length, to - span.start);
             'fields: while s < end {
-                let t = skip(tag.clock, s);
+                let t = skip(wants.clock, s);
                 if t == s {
                     break 'days Found::At(span.start + s);
                 }

@@ -15,7 +15,7 @@ use Rattle.ascii.specs.declared.Layout.{Layout}
 use Rattle.clock.specs.Clock.{minuteOf}
 use Rattle.ascii.specs.Ascii.{ticksOf, zoneText, codeText}
 use Rattle.ascii.proofs.Shapes.{lay}
-use Rattle.seek.specs.declared.Tag.{Tag}
+use Rattle.seek.specs.declared.Wants.{Wants}
 use Rattle.seek.specs.Naming.{dayFits, clockFits}
 use Rattle.tag.specs.Forms.{Form, days, months, hours, minutes, find}
 use Rattle.tag.specs.Tags.{until, calendarAs, timeIn, Daytime, tag, midnight, anyDay, aloneBy, alone, joined, formed, goodTag, wantOf}
@@ -35,12 +35,12 @@ pub record Completed (n x k : ℕ) (s : List ℕ) : Type 0 where
   pub short : Shortening (codeText layout n x number) s
 
 -- ---- what a tag was formed of
-pub data Parts (s : List ℕ) (t : Tag) : Type 0 where
+pub data Parts (s : List ℕ) (t : Wants) : Type 0 where
   day : (f : Form) → find (days ++ months) s ≡ done f → tag (calendarAs s f) midnight ≡ t → Parts s t
   clock : (k : Daytime) → timeIn (hours ++ minutes) s ≡ done k → tag anyDay k ≡ t → Parts s t
   joint : (c r : List ℕ) (f : Form) (k : Daytime) → s ≡ c ++ (84 ∷ r) → find days c ≡ done f → timeIn hours r ≡ done k → tag (calendarAs c f) k ≡ t → Parts s t
 
-parts-alone : (s : List ℕ) (t : Tag) → alone s ≡ done t → Parts s t
+parts-alone : (s : List ℕ) (t : Wants) → alone s ≡ done t → Parts s t
 unfolding alone
 parts-alone s t e = go (find (days ++ months) s) refl e
   where
@@ -48,14 +48,14 @@ parts-alone s t e = go (find (days ++ months) s) refl e
     go (done f) p e = day f p (done-is _ t e)
     go (refused n) p e = let (k, (a, b)) = given-done (tag anyDay) (timeIn (hours ++ minutes) s) t e in clock k a b
 
-parts-joined : (s c r : List ℕ) (t : Tag) → s ≡ c ++ (84 ∷ r) → joined c r ≡ done t → Parts s t
+parts-joined : (s c r : List ℕ) (t : Wants) → s ≡ c ++ (84 ∷ r) → joined c r ≡ done t → Parts s t
 unfolding joined
 parts-joined s c r t i e =
     let (f, (a, b)) = then-done (find days c) (λ f. given (tag (calendarAs c f)) (timeIn hours r)) t e in
     let (k, (p, q)) = given-done (tag (calendarAs c f)) (timeIn hours r) t b in
     joint c r f k i a p q
 
-pub parts-formed : (s : List ℕ) (t : Tag) → formed s ≡ done t → Parts s t
+pub parts-formed : (s : List ℕ) (t : Wants) → formed s ≡ done t → Parts s t
 unfolding formed
 parts-formed s t e = go (ltb (until 84 s) (length s)) refl e
   where
@@ -63,7 +63,7 @@ parts-formed s t e = go (ltb (until 84 s) (length s)) refl e
     go true p e = parts-joined s _ _ t (until-cut 84 s (ltb-true (until 84 s) (length s) p)) e
     go false p e = parts-alone s t e
 
-pub parts : (s : List ℕ) (t : Tag) → wantOf s ≡ done t → Parts s t × (goodTag t ≡ true)
+pub parts : (s : List ℕ) (t : Wants) → wantOf s ≡ done t → Parts s t × (goodTag t ≡ true)
 unfolding wantOf
 parts s t e =
     let (a, b) = need-done (leb 1 (length s)) 1 _ t e in
@@ -138,7 +138,7 @@ both-code n x k s c r i d b =
     }
 
 -- each day and second that have what a tag wants
-pub completed : (s : List ℕ) (t : Tag) (n x : ℕ) → n ≤ 3652058 → x ≤ 86400 → Parts s t → dayFits (t .calendar) n ≡ true → clockFits (t .clock) x ≡ true → Completed n x (t .ticks) s
+pub completed : (s : List ℕ) (t : Wants) (n x : ℕ) → n ≤ 3652058 → x ≤ 86400 → Parts s t → dayFits (t .calendar) n ≡ true → clockFits (t .clock) x ≡ true → Completed n x (t .ticks) s
 completed s t n x h l (day f e i) p q =
     rw (← i) (day-code n x s (day-back n h s f e (rw (← i) at p) .1) (at-midnight x (rw (← i) at q)))
 completed s t n x h l (clock k e i) p q = rw (← i) (time-code n x s (k .ticks) (alone-back x l s k e (rw (← i) at q) .1))

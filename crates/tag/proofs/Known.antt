@@ -8,12 +8,12 @@ use Rattle.calendar.specs.Gregorian.{kind, row, monthLength, isDate, isOrdinal}
 use Rattle.shape.specs.Quoted.{bytes}
 use Rattle.seek.specs.declared.Want.{Want}
 use Rattle.seek.specs.declared.Want.the-variants.{Free, Is}
-use Rattle.seek.specs.declared.Tag.{Tag}
+use Rattle.seek.specs.declared.Wants.{Wants}
 use Rattle.shape.specs.Shapes.{shapeOf}
 use Rattle.tag.specs.Forms.{days, months, hours, minutes}
 use Rattle.tag.specs.Tags.{calendarAs, clockAs, unzoned, timeIn, alone, joined, formed, goodDay, goodClock, wantOf}
 
-abbrev wants : Want → Want → Want → Want → Want → Want → Want → ℕ → Tag
+abbrev wants : Want → Want → Want → Want → Want → Want → Want → ℕ → Wants
 wants y m d o h i s k = record {
   calendar = record { year = y; month = m; day = d; ordinal = o };
   clock = record { hour = h; minute = i; second = s };
@@ -24,7 +24,7 @@ wants y m d o h i s k = record {
 calendars : List (List ℕ)
 calendars = bytes "2016-12-31" ∷ bytes "-12-31" ∷ bytes "--31" ∷ bytes "2016-366" ∷ bytes "-366" ∷ bytes "2016-12" ∷ bytes "-12" ∷ bytes "2016" ∷ bytes "-02-29" ∷ []
 
-abbrev date : Want → Want → Want → Want → Tag
+abbrev date : Want → Want → Want → Want → Wants
 date y m d o = wants y m d o (Is 0) (Is 0) (Is 0) 0
 
 calendars-want : map wantOf calendars ≡
@@ -44,7 +44,7 @@ calendars-want = refl
 times : List (List ℕ)
 times = bytes "12" ∷ bytes "12:34" ∷ bytes "12:34:56" ∷ bytes "12:34:56.5" ∷ bytes ":34" ∷ bytes ":34:56" ∷ bytes ":34:56.5" ∷ bytes "::56" ∷ bytes "::56.5" ∷ bytes "::.5" ∷ bytes "::.000000000001" ∷ bytes "12Z" ∷ bytes "::.5Z" ∷ bytes "23:59:60" ∷ bytes ":59:60" ∷ bytes "::60" ∷ []
 
-abbrev time : Want → Want → Want → ℕ → Tag
+abbrev time : Want → Want → Want → ℕ → Wants
 time h i s k = wants Free Free Free Free h i s k
 
 times-want : map wantOf times ≡

@@ -9,7 +9,7 @@ use lib.ListN.{length, take, drop}
 use Rattle.base.specs.Outcome.{Outcome, done, refused, need, andThen, given}
 use Rattle.base.proofs.Bools.{cond-yes, cond-no}
 use Rattle.base.proofs.Ladders.{need-yes, need-no}
-use Rattle.seek.specs.declared.Tag.{Tag}
+use Rattle.seek.specs.declared.Wants.{Wants}
 use Rattle.tag.specs.Forms.{Form, days, months, hours, minutes, find}
 use Rattle.tag.specs.Tags.{calendarAs, until, Daytime, timeIn, tag, midnight, anyDay, aloneBy, alone, joined, formed, goodTag, wantOf}
 
@@ -45,7 +45,7 @@ module _ (s : List ℕ) where
 
 -- ---- which of them
 module _ (s : List ℕ) (t : ℕ) (e : t ≡ until 84 s) where
-  abbrev parted : ℕ → Outcome Tag
+  abbrev parted : ℕ → Outcome Wants
   parted q = cond (ltb q (length s)) (joined (take q s) (drop (q + 1) s)) (alone s)
 
   formed-at : formed s ≡ parted t
@@ -64,18 +64,18 @@ module _ (s : List ℕ) where
   unfolding wantOf
   tag-empty h = sym (need-no 1 _ (lt-leb 1 (length s) h))
 
-  abbrev ranged : Outcome Tag → Outcome Tag
+  abbrev ranged : Outcome Wants → Outcome Wants
   ranged x = andThen x (λ t. need (goodTag t) 4 (done t))
 
   module _ (h : 1 ≤ length s) where
-    tag-at : (x : Outcome Tag) → formed s ≡ x → wantOf s ≡ ranged x
+    tag-at : (x : Outcome Wants) → formed s ≡ x → wantOf s ≡ ranged x
     unfolding wantOf
     tag-at x e = need-yes 1 _ (le-leb 1 (length s) h) ∙ ap ranged e
 
     pub tag-unformed : formed s ≡ refused 4 → refused 4 ≡ wantOf s
     tag-unformed e = sym (tag-at (refused 4) e)
 
-    module _ (t : Tag) (e : formed s ≡ done t) where
+    module _ (t : Wants) (e : formed s ≡ done t) where
       pub tag-out : goodTag t ≡ false → refused 4 ≡ wantOf s
       tag-out g = sym (tag-at (done t) e ∙ need-no 4 _ g)
 

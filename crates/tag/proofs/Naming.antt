@@ -31,11 +31,11 @@ use Rattle.ascii.proofs.Back.{code-shaped}
 use Rattle.ascii.proofs.Forth.{code-again, part-lt, day-high, clock-high}
 use Rattle.ascii.proofs.Ladder.{text-shaped}
 use Rattle.ascii.proofs.Promises.{code-reads}
-use Rattle.seek.specs.declared.Tag.{Tag}
+use Rattle.seek.specs.declared.Wants.{Wants}
 use Rattle.seek.specs.Naming.{dayFits, clockFits, fitsReading}
 use Rattle.tag.specs.Tags.{wantOf}
 use Rattle.tag.specs.Shortening.{Shortening, Full, Names, Nameless}
-use Rattle.tag.proofs.Shortened.{Wants, wants}
+use Rattle.tag.proofs.Shortened.{Meets, meets}
 use Rattle.tag.proofs.Completed.{Completed, Parts, parts, completed}
 use Rattle.tag.proofs.Witness.{day-exists, second-exists, tag-4}
 
@@ -95,9 +95,9 @@ module _ (code : List ℕ) (full : shaped codeShapes code ≡ true) where
           })
 
 -- ---- a text that is a shortening of a code that is not 4 is a tag, and wants what the code has
-spelled-wants : (s code : List ℕ) (c : Spelled code) → Shortening code s → Wants (c .day) (c .second) (ticksOf (c .layout .digits) (c .number)) s
-spelled-wants s code c h =
-    wants (c .layout) (c .day) (c .second) (c .number) (c .high) (c .low) (c .few) (c .small) (subst (λ (k : List ℕ). Shortening k s) (sym (c .is)) h)
+spelled-meets : (s code : List ℕ) (c : Spelled code) → Shortening code s → Meets (c .day) (c .second) (ticksOf (c .layout .digits) (c .number)) s
+spelled-meets s code c h =
+    meets (c .layout) (c .day) (c .second) (c .number) (c .high) (c .low) (c .few) (c .small) (subst (λ (k : List ℕ). Shortening k s) (sym (c .is)) h)
 
 -- the code of a day and a second
 code-of : (s : List ℕ) (n x k : ℕ) → n ≤ 3652058 → x ≤ 86400 → Completed n x k s → (code : List ℕ) × (Full s code × (text code ≡ done (moment (fromEpoch n) x k)))
@@ -111,30 +111,30 @@ code-of s n x k high low c = (
 
 module _ (t : Table) (g : reckons t ≡ true) where
   -- the moments that have what a tag wants
-  abbrev pub Named : Tag → Time → Type 0
+  abbrev pub Named : Wants → Time → Type 0
   Named w m = (fitsReading w (readingOf t (m .sec)) ≡ true) × (m .ticks ≡ w .ticks)
 
-  names-by : (w : Tag) (m : Time) (n x k : ℕ) → x ≤ 86400 → dayFits (w .calendar) n ≡ true → clockFits (w .clock) x ≡ true → w .ticks ≡ k → timeOf t (moment (fromEpoch n) x k) ≡ done m → Named w m
+  names-by : (w : Wants) (m : Time) (n x k : ℕ) → x ≤ 86400 → dayFits (w .calendar) n ≡ true → clockFits (w .clock) x ≡ true → w .ticks ≡ k → timeOf t (moment (fromEpoch n) x k) ≡ done m → Named w m
   names-by w m n x k h d c i e =
       let (a, b) = time-told t (moment (fromEpoch n) x k) m e in
       let u : readingOf t (m .sec) ≡ done (reading t n x) = second-back t (table-good t g) n x (m .sec) (sym (utc-index t (table-good t g) n x h) ∙ a) in
       (rw (u, d, c), b ∙ sym i)
 
   -- the tag names what a full code of which it is a shortening reads to ..
-  pub names-named : (s : List ℕ) (w : Tag) → wantOf s ≡ done w → (m : Time) → Names t s m → Named w m
+  pub names-named : (s : List ℕ) (w : Wants) → wantOf s ≡ done w → (m : Time) → Names t s m → Named w m
   names-named s w e m (code, (f, r)) =
       ⊎-elim (λ (h : text code ≡ refused 4). never 4 m (sym (ap (readBy t) h) ∙ r)) (λ (c : Spelled code). go c) (full-cases code (f .full))
     where
       go : Spelled code → Named w m
       go c =
-          let q = spelled-wants s code c (f .short) in
+          let q = spelled-meets s code c (f .short) in
           let i : q .wanted ≡ w = done-is (q .wanted) w (sym (q .told) ∙ e) in
           let h : timeOf t (moment (fromEpoch (c .day)) (c .second) (ticksOf (c .layout .digits) (c .number))) ≡ done m =
           sym (ap (readBy t) (code-reads (c .layout) (c .day) (c .second) (c .number) (c .high) (c .low) (c .few) (c .small) .0)) ∙ ap (λ (y : List ℕ). readBy t (text y)) (c .is) ∙ r in
-          subst (λ (y : Tag). Named y m) i (names-by (q .wanted) m (c .day) (c .second) _ (c .low) (q .day) (q .second) (q .ticks) h)
+          subst (λ (y : Wants). Named y m) i (names-by (q .wanted) m (c .day) (c .second) _ (c .low) (q .day) (q .second) (q .ticks) h)
 
   -- .. and nothing else
-  pub named-names : (s : List ℕ) (w : Tag) → wantOf s ≡ done w → (m : Time) → Named w m → Names t s m
+  pub named-names : (s : List ℕ) (w : Wants) → wantOf s ≡ done w → (m : Time) → Named w m → Names t s m
   named-names s w e m (f, i) = go (readingOf t (m .sec)) refl f
     where
       p : Parts s w
@@ -151,13 +151,13 @@ module _ (t : Table) (g : reckons t ≡ true) where
 -- ---- refused 4
 pub refused-nameless : (s : List ℕ) → wantOf s ≡ refused 4 → Nameless s
 refused-nameless s e code f =
-    ⊎-elim (λ (h : text code ≡ refused 4). h) (λ (c : Spelled code). let w = spelled-wants s code c (f .short) in never 4 (w .wanted) (sym e ∙ w .told)) (full-cases code (f .full))
+    ⊎-elim (λ (h : text code ≡ refused 4). h) (λ (c : Spelled code). let w = spelled-meets s code c (f .short) in never 4 (w .wanted) (sym e ∙ w .told)) (full-cases code (f .full))
 
 -- .. of a text that is not empty, exactly when no full code of which it is a shortening reads to anything but 4
 pub nameless-refused : (s : List ℕ) → 1 ≤ length s → Nameless s → wantOf s ≡ refused 4
 nameless-refused s l none = go (wantOf s) refl
   where
-    go : (o : Outcome Tag) → wantOf s ≡ o → wantOf s ≡ refused 4
+    go : (o : Outcome Wants) → wantOf s ≡ o → wantOf s ≡ refused 4
     go (refused n) e = e ∙ ap refused (tag-4 s n l e)
     go (done w) e =
         let (p, g) = parts s w e in

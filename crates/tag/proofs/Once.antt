@@ -2,15 +2,15 @@
 use mathlib.Core.Path.{_≡_, refl, ap}
 use Rattle.base.specs.Outcome.{Outcome, done, refused}
 use Rattle.base.proofs.Once.{once, refusalOf, refusal-back}
-use Rattle.seek.specs.declared.Tag.{Tag}
+use Rattle.seek.specs.declared.Wants.{Wants}
 use Rattle.tag.specs.Tags.{saysTag}
 use Rattle.tag.specs.declared.TagAnswer.{TagAnswer}
 use Rattle.tag.specs.declared.TagAnswer.the-variants as A
 
-pub tag-once : (o : Outcome Tag) (a b : TagAnswer) → saysTag a ≡ o → saysTag b ≡ o → a ≡ b
+pub tag-once : (o : Outcome Wants) (a b : TagAnswer) → saysTag a ≡ o → saysTag b ≡ o → a ≡ b
 tag-once = once saysTag back back-is
   where
-    back : Outcome Tag → TagAnswer
+    back : Outcome Wants → TagAnswer
     back (done t) = A.Done t
     back (refused n) = A.Refused (refusalOf n)
 

@@ -18,7 +18,7 @@ use Rattle.shape.proofs.Tests.{passes, downTo, down-at, or-left}
 use Rattle.shape.proofs.Shapes.{zeros, shape-length, shape-take, shape-drop, shape-shape, digits-in, good-shape, each-shape, shaped-alike, shaped-first, shaped-second, shaped-followed}
 use Rattle.ascii.specs.Shapes.{codeShapes}
 use Rattle.ascii.specs.Ascii.{zoneText}
-use Rattle.seek.specs.declared.Tag.{Tag}
+use Rattle.seek.specs.declared.Wants.{Wants}
 use Rattle.tag.specs.Forms.{Place, free, lowest, at, Form, Forms, days, months, hours, minutes, find, shapesOf, endings, timeShapes, tagShapes}
 use Rattle.tag.specs.Tags.{until, isLowest, clockAs, calendarAs, fractionAs, Daytime, daytime, unzoned, timeIn, tag, anyDay, aloneBy, alone, joined, formed}
 use Rattle.tag.proofs.Scans.{until-shape, find-alike}
@@ -111,7 +111,7 @@ all-formed : passes (λ p. isDone (formed p)) tagShapes ≡ true
 unfolding tagShapes formed alone joined timeIn unzoned shapeOf days months hours minutes
 all-formed = refl
 
-pub shaped-formed : (s : List ℕ) → shaped tagShapes s ≡ true → (t : Tag) × (formed s ≡ done t)
+pub shaped-formed : (s : List ℕ) → shaped tagShapes s ≡ true → (t : Wants) × (formed s ≡ done t)
 shaped-formed s e = some-done (formed s) (sym (formed-shape s) ∙ each-shape (λ p. isDone (formed p)) tagShapes s all-formed e)
 
 -- ---- and what is formed has one of them
@@ -184,7 +184,7 @@ timed-shaped fs s k e =
     ap (shaped (timeShapes fs)) (p .is)
     ∙ time-shaped fs (p .head) (p .tail) (zoneText (p .zone)) (p .form-is) (p .found) (ending-shaped (p .form-is .third) (k .ticks) (p .next) (p .ticks)) (zone-shaped (p .zone))
 
-parts-shaped : (s : List ℕ) (t : Tag) → Parts s t → shaped tagShapes s ≡ true
+parts-shaped : (s : List ℕ) (t : Wants) → Parts s t → shaped tagShapes s ≡ true
 unfolding tagShapes
 parts-shaped s t (day f e i) = shaped-first (shapesOf (days ++ months)) _ s (find-shaped (days ++ months) s f e)
 parts-shaped s t (clock k e i) =
@@ -196,14 +196,14 @@ parts-shaped s t (joint c r f k j e g i) =
     (shaped-followed (shapesOf days) (followed (markT ∷ []) (timeShapes hours)) c (84 ∷ r) (find-shaped days c f e)
     (shaped-followed (markT ∷ []) (timeShapes hours) markT r (one-shaped markT markT mark-fits) (timed-shaped hours r k g))))
 
-pub formed-shaped : (s : List ℕ) (t : Tag) → formed s ≡ done t → shaped tagShapes s ≡ true
+pub formed-shaped : (s : List ℕ) (t : Wants) → formed s ≡ done t → shaped tagShapes s ≡ true
 formed-shaped s t e = parts-shaped s t (parts-formed s t e)
 
 -- so a text of no such shape is 4
 pub unshaped-4 : (s : List ℕ) → shaped tagShapes s ≡ false → formed s ≡ refused 4
 unshaped-4 s e = go (formed s) refl
   where
-    go : (o : Outcome Tag) → formed s ≡ o → formed s ≡ refused 4
+    go : (o : Outcome Wants) → formed s ≡ o → formed s ≡ refused 4
     go (done t) f = never-both (formed-shaped s t f) e
     go (refused n) f = f ∙ ap refused (formed-4 s n f)
 

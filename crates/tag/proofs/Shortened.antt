@@ -14,7 +14,7 @@ use Rattle.calendar.specs.Gregorian.{kind, row, monthLength, isDate}
 use Rattle.ascii.specs.declared.Layout.{Layout}
 use Rattle.clock.specs.Clock.{minuteOf}
 use Rattle.ascii.specs.Ascii.{ticksOf, codeText}
-use Rattle.seek.specs.declared.Tag.{Tag}
+use Rattle.seek.specs.declared.Wants.{Wants}
 use Rattle.seek.specs.Naming.{dayFits, clockFits}
 use Rattle.shape.specs.Shapes.{shapeOf}
 use Rattle.tag.specs.Forms.{Form, days, months, hours, minutes, find}
@@ -35,7 +35,7 @@ no-time : {X : Type 0} (k : Daytime) → timeIn (hours ++ minutes) [] ≡ done k
 unfolding hours minutes shapeOf timeIn unzoned
 no-time k e = never 4 k e
 
-tag-by : (s : List ℕ) (t : Tag) → 1 ≤ length s → formed s ≡ done t → goodDay (t .calendar) ≡ true → goodClock (t .clock) ≡ true → wantOf s ≡ done t
+tag-by : (s : List ℕ) (t : Wants) → 1 ≤ length s → formed s ≡ done t → goodDay (t .calendar) ≡ true → goodClock (t .clock) ≡ true → wantOf s ≡ done t
 tag-by s t l e g h = sym (tag-done s l t e (rw (g, h)))
 
 -- no T: a calendar alone, or a time alone
@@ -68,8 +68,8 @@ day-and-time n x k c s f d t e =
     (d .good) (t .good)
 
 -- ---- what remains of a full code
-pub record Wants (n x k : ℕ) (s : List ℕ) : Type 0 where
-  pub wanted : Tag
+pub record Meets (n x k : ℕ) (s : List ℕ) : Type 0 where
+  pub wanted : Wants
   pub told : wantOf s ≡ done wanted
   pub day : dayFits (wanted .calendar) n ≡ true
   pub second : clockFits (wanted .clock) x ≡ true
@@ -84,18 +84,18 @@ unfolding clockFits
 at-midnight x a b c = rw (a, b, c)
 
 module _ (l : Layout) (n x f : ℕ) (hn : n ≤ 3652058) (hx : x ≤ 86400) (hd : l .digits ≤ 12) (hf : f < 10 ^ (l .digits)) where
-  pub wants : {s : List ℕ} → Shortening (codeText l n x f) s → Wants n x (ticksOf (l .digits) f) s
-  wants (calendar lo hi r low) =
+  pub meets : {s : List ℕ} → Shortening (codeText l n x f) s → Meets n x (ticksOf (l .digits) f) s
+  meets (calendar lo hi r low) =
       let e = calendar-of l n x f hd in
       let (a, b, c, k) = low-hour x hx (l .digits) f hd hf (l .zone) (rw (clock-of l n x f hd) at low) in
       rw e
       (let d = date-forth n hn (l .ordinal) lo hi (rw e at r) in
       record { wanted = tag (calendarAs _ (d .form-is)) midnight; told = day-alone n _ (d .form-is) (d .told); day = d .told .fits; second = at-midnight x a b c; ticks = sym k })
-  wants (time lo hi i r) =
+  meets (time lo hi i r) =
       rw (clock-of l n x f hd, zone-of l n x f hd)
       (let t = time-forth x hx (l .digits) f hd hf (l .zone) lo hi i (rw (clock-of l n x f hd) at r) in
       record { wanted = tag anyDay (daytime (t .alone .clock) (ticksOf (l .digits) f)); told = time-alone _ _ _ _ t; day = any-fits n; second = t .alone .fits; ticks = refl })
-  wants (both lo hi r q) =
+  meets (both lo hi r q) =
       let e = calendar-of l n x f hd in
       let g = clock-of l n x f hd in
       rw (e, g, zone-of l n x f hd)

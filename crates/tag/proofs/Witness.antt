@@ -19,7 +19,7 @@ use Rattle.ascii.specs.Ascii.{ticksOf}
 use Rattle.seek.specs.declared.Want.{Want}
 use Rattle.seek.specs.declared.Want.the-variants.{Free, Is}
 use Rattle.seek.specs.declared.Calendar.{Calendar}
-use Rattle.seek.specs.declared.Tag.{Tag}
+use Rattle.seek.specs.declared.Wants.{Wants}
 use Rattle.seek.specs.Naming.{may, dayFits, clockFits}
 use Rattle.shape.specs.Shapes.{fits}
 use Rattle.tag.specs.Forms.{Place, Form, Forms, days, months, hours, minutes, find}
@@ -80,13 +80,13 @@ either-days s f e =
     find-each (λ g. Either (calendarAs s g)) days s f e
     (λ i. inl refl, (λ i. inl refl, (λ i. inl refl, (λ i. inr (refl, refl), (λ i. inr (refl, refl), tt)))))
 
-pub day-exists : (s : List ℕ) (t : Tag) → Parts s t → goodTag t ≡ true → SomeDay (t .calendar)
+pub day-exists : (s : List ℕ) (t : Wants) → Parts s t → goodTag t ≡ true → SomeDay (t .calendar)
 day-exists s t (day f e i) g = some-day (t .calendar) (rw (← i) (either s f e)) (and-true _ _ g .0)
 day-exists s t (clock k e i) g = some-day (t .calendar) (rw (← i) (inl refl)) (and-true _ _ g .0)
 day-exists s t (joint c r f k j e h i) g = some-day (t .calendar) (rw (← i) (either-days c f e)) (and-true _ _ g .0)
 
 -- ---- a second
-pub second-exists : (t : Tag) → goodTag t ≡ true → (x : ℕ) × (x ≤ 86400) × (clockFits (t .clock) x ≡ true)
+pub second-exists : (t : Wants) → goodTag t ≡ true → (x : ℕ) × (x ≤ 86400) × (clockFits (t .clock) x ≡ true)
 unfolding goodClock clockFits
 second-exists t g =
     let k = t .clock in

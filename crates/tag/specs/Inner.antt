@@ -8,7 +8,7 @@ use lib.ListN.{getD}
 use lib.Seq.{slice}
 use Rattle.base.specs.Outcome.{Outcome, done, refused}
 use Rattle.shape.specs.Shapes.{fits}
-use Rattle.seek.specs.declared.Tag.{Tag}
+use Rattle.seek.specs.declared.Wants.{Wants}
 use Rattle.tag.specs.Forms.{Place, free, lowest, at, Form, form, Forms, days, months, hours, minutes}
 use Rattle.tag.specs.Tags.{Daytime, daytime}
 use Rattle.tag.specs.declared.Part.{Part}
@@ -65,6 +65,6 @@ abbrev pub saysTime : Time → Outcome Daytime
 saysTime (T.Good k n) = done (daytime k n)
 saysTime T.Bad = refused 4
 
-abbrev pub saysParsed : Parsed → Outcome Tag
+abbrev pub saysParsed : Parsed → Outcome Wants
 saysParsed (Q.Good t) = done t
 saysParsed Q.Bad = refused 4

@@ -14,7 +14,7 @@ use Rattle.seek.specs.declared.Want.{Want}
 use Rattle.seek.specs.declared.Want.the-variants.{Free, Is}
 use Rattle.seek.specs.declared.Calendar.{Calendar}
 use Rattle.seek.specs.declared.Clock.{Clock}
-use Rattle.seek.specs.declared.Tag.{Tag}
+use Rattle.seek.specs.declared.Wants.{Wants}
 use Rattle.tag.specs.Forms.{Place, free, lowest, at, Form, Forms, days, months, hours, minutes, find}
 use Rattle.tag.specs.declared.TagAnswer.{TagAnswer}
 use Rattle.tag.specs.declared.TagAnswer.the-variants as A
@@ -75,7 +75,7 @@ unfoldable pub timeIn : Forms → List ℕ → Outcome Daytime
 timeIn fs s = let e = until 90 s in need (leb (length s) (e + 1)) 4 (unzoned fs (take e s))
 
 -- ---- tags
-abbrev pub tag : Calendar → Daytime → Tag
+abbrev pub tag : Calendar → Daytime → Wants
 tag c k = record { calendar = c; clock = k .clock; ticks = k .ticks }
 
 -- "A calendar alone means 00:00:00; a time alone leaves the date free"
@@ -85,18 +85,18 @@ midnight = daytime (record { hour = Is 0; minute = Is 0; second = Is 0 }) 0
 abbrev pub anyDay : Calendar
 anyDay = record { year = Free; month = Free; day = Free; ordinal = Free }
 
-abbrev pub aloneBy : List ℕ → Outcome Form → Outcome Tag
+abbrev pub aloneBy : List ℕ → Outcome Form → Outcome Wants
 aloneBy s (done f) = done (tag (calendarAs s f) midnight)
 aloneBy s (refused n) = given (tag anyDay) (timeIn (hours ++ minutes) s)
 
-unfoldable pub alone : List ℕ → Outcome Tag
+unfoldable pub alone : List ℕ → Outcome Wants
 alone s = aloneBy s (find (days ++ months) s)
 
 -- "Joined by T, the calendar must reach its day and the time must begin at hh"
-unfoldable pub joined : List ℕ → List ℕ → Outcome Tag
+unfoldable pub joined : List ℕ → List ℕ → Outcome Wants
 joined c k = andThen (find days c) (λ f. given (tag (calendarAs c f)) (timeIn hours k))
 
-unfoldable pub formed : List ℕ → Outcome Tag
+unfoldable pub formed : List ℕ → Outcome Wants
 formed s = let t = until 84 s in cond (ltb t (length s)) (joined (take t s) (drop (t + 1) s)) (alone s)
 
 -- ---- ranges
@@ -116,13 +116,13 @@ goodDay c = goodDayBy c (c .ordinal)
 unfoldable pub goodClock : Clock → Bool
 goodClock k = clockOk (orElse (k .hour) 23) (orElse (k .minute) 59) (orElse (k .second) 0)
 
-abbrev pub goodTag : Tag → Bool
+abbrev pub goodTag : Wants → Bool
 goodTag t = goodDay (t .calendar) && goodClock (t .clock)
 
 -- what a text wants: "ASCII is empty" 1; "a field .. character or length breaks its rule" 4
-unfoldable pub wantOf : List ℕ → Outcome Tag
+unfoldable pub wantOf : List ℕ → Outcome Wants
 wantOf s = need (leb 1 (length s)) 1 (andThen (formed s) (λ t. need (goodTag t) 4 (done t)))
 
-abbrev pub saysTag : TagAnswer → Outcome Tag
+abbrev pub saysTag : TagAnswer → Outcome Wants
 saysTag (A.Done t) = done t
 saysTag (A.Refused why) = refused (number why)

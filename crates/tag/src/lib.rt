@@ -4,7 +4,7 @@ use octets::Counted;
 use scale::Record;
 use seek::Calendar;
 use seek::Clock;
-use seek::Tag;
+use seek::Wants;
 use seek::Want;
 ghost use mathlib.Core.Path.{_≡_};
 ghost use mathlib.Core.Bool.{true};
@@ -45,7 +45,7 @@ ghost use Rattle.tag.specs.Inner.{
 };
 
 pub enum TagAnswer {
-    Done(Tag),
+    Done(Wants),
     Refused(Refusal),
 }
 
@@ -116,7 +116,7 @@ pub fn read(s: &[u8]) -> TagAnswer
 
 // The fields of a text of permitted form.
 enum Parsed {
-    Good(Tag),
+    Good(Wants),
     Bad,
 }
 
@@ -146,7 +146,7 @@ fn joined(c: &[u8], k: &[u8]) -> Parsed
         Time::Bad => Parsed::Bad,
         Time::Good(clock, ticks) => {
             let calendar = calendar_as(c, i);
-            Parsed::Good(Tag {
+            Parsed::Good(Wants {
                 calendar: calendar,
                 clock: clock,
                 ticks: ticks,
@@ -167,7 +167,7 @@ fn alone(s: &[u8]) -> Parsed
             minute: Want::Is(0),
             second: Want::Is(0),
         };
-        return Parsed::Good(Tag {
+        return Parsed::Good(Wants {
             calendar: calendar,
             clock: midnight,
             ticks: 0,
@@ -183,7 +183,7 @@ fn alone(s: &[u8]) -> Parsed
                 day: Want::Free,
                 ordinal: Want::Free,
             };
-            Parsed::Good(Tag {
+            Parsed::Good(Wants {
                 calendar: any,
                 clock: clock,
                 ticks: ticks,

@@ -32,7 +32,7 @@ unfolding listOf
 returns-3 c =
     let a = c .before .before .before .args in
     rw (need-yes 5 _ (window-in (a .from) (a .to) (omega arith) (omega arith)))
-    (fill-done (ap (map (loweredBy secondRaise)) (empty (names builtin (a .tag)) (omega arith))) (fill-start (now (a .out)) refl) (a .tag .ticks))
+    (fill-done (ap (map (loweredBy secondRaise)) (empty (names builtin (a .wants)) (omega arith))) (fill-start (now (a .out)) refl) (a .wants .ticks))
 
 sub-reading-of : tie.Need-sub-reading-of
 sub-reading-of c = omega arith

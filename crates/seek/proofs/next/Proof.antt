@@ -20,19 +20,19 @@ use Rattle.seek.proofs.next.Statement.{statement}
 use Rattle.seek.proofs.next.Tie as tie
 
 abbrev Inv-fields : tie.InvT-fields
-Inv-fields tag from to last day s₀ span end s = Searched builtin builtin-good tag from to day s
+Inv-fields wants from to last day s₀ span end s = Searched builtin builtin-good wants from to day s
 
 abbrev μ-fields : tie.MeasureT-fields
-μ-fields tag from to last day s₀ span end s = end - s
+μ-fields wants from to last day s₀ span end s = end - s
 
 abbrev Inv-days : tie.InvT-days
-Inv-days tag from to last day₀ s₀ day s = (day₀ ≤ day) × Searched builtin builtin-good tag from to day s
+Inv-days wants from to last day₀ s₀ day s = (day₀ ≤ day) × Searched builtin builtin-good wants from to day s
 
 abbrev μ-days : tie.MeasureT-days
-μ-days tag from to last day₀ s₀ day s = last .day + 1 - day
+μ-days wants from to last day₀ s₀ day s = last .day + 1 - day
 
 returns : tie.Need-returns Inv-fields μ-fields Inv-days μ-days
-returns c = sym (first-none (names builtin (c .before .args .tag)) (λ k l h. absurd (omega arith)))
+returns c = sym (first-none (names builtin (c .before .args .wants)) (λ k l h. absurd (omega arith)))
 
 reading-of-requires : tie.Need-reading-of-requires Inv-fields μ-fields Inv-days μ-days
 reading-of-requires c κs = omega arith

@@ -24,14 +24,14 @@ abbrev signed : ℕ → ℤ
 signed = loweredBy secondRaise
 
 abbrev Inv-loop : tie.InvT-loop
-Inv-loop tag from to last out₀ at₀ n₀ out at n =
-    Lister signed (names builtin tag) from to at n out₀ out × (firstRaised ≤ at)
+Inv-loop wants from to last out₀ at₀ n₀ out at n =
+    Lister signed (names builtin wants) from to at n out₀ out × (firstRaised ≤ at)
 
 abbrev μ-loop : tie.MeasureT-loop
-μ-loop tag from to last out₀ at₀ n₀ out at n = to - at
+μ-loop wants from to last out₀ at₀ n₀ out at n = to - at
 
 loop-holds : tie.Need-loop-holds Inv-loop μ-loop
-loop-holds c = (lister-start signed (names builtin (c .args .tag)) (c .args .from) (c .args .to) (c .args .out .now), omega arith)
+loop-holds c = (lister-start signed (names builtin (c .args .wants)) (c .args .from) (c .args .to) (c .args .out .now), omega arith)
 
 next-requires : tie.Need-next-requires Inv-loop μ-loop
 next-requires c κs = (c .loop .inv .1, c .before .pre .1, c .before .pre .2)
@@ -49,14 +49,14 @@ returns : tie.Need-returns Inv-loop μ-loop
 returns c =
     let a = c .before .before .before .before .args in
     let l = c .before .before .before .loop in
-    lister-none signed (names builtin (a .tag)) (a .from) (a .to) (l .at) (a .to) (l .n) (a .out .now) (l .out) (l .inv .0)
-    (sym (c .enum-told .given .1) ∙ c .before .before .next .ensures) (omega arith) (a .tag .ticks)
+    lister-none signed (names builtin (a .wants)) (a .from) (a .to) (l .at) (a .to) (l .n) (a .out .now) (l .out) (l .inv .0)
+    (sym (c .enum-told .given .1) ∙ c .before .before .next .ensures) (omega arith) (a .wants .ticks)
 
 -- what the search found
-found : (c : tie.After-f Inv-loop μ-loop) → At (c .f .given .0 .0) ≡ firstOf (namedIn (names builtin (c .before .before .before .before .args .tag)) (c .before .before .before .loop .at) (c .before .before .before .before .args .to))
+found : (c : tie.After-f Inv-loop μ-loop) → At (c .f .given .0 .0) ≡ firstOf (namedIn (names builtin (c .before .before .before .before .args .wants)) (c .before .before .before .loop .at) (c .before .before .before .before .args .to))
 found c = sym (c .f .given .1) ∙ c .before .before .next .ensures
 
-least : (c : tie.After-f Inv-loop μ-loop) → Least (names builtin (c .before .before .before .before .args .tag)) (c .before .before .before .loop .at) (c .before .before .before .before .args .to) (c .f .given .0 .0)
+least : (c : tie.After-f Inv-loop μ-loop) → Least (names builtin (c .before .before .before .before .args .wants)) (c .before .before .before .loop .at) (c .before .before .before .before .args .to) (c .f .given .0 .0)
 least c = least-of _ (found c)
 
 same-length-2 : tie.Need-same-length-2 Inv-loop μ-loop
@@ -67,8 +67,8 @@ returns-2 c =
     let k = c .before .before in
     let a = k .before .before .before .before .args in
     let l = k .before .before .before .loop in
-    lister-full signed (names builtin (a .tag)) (a .from) (a .to) (l .at) (a .to) (l .n) (a .out .now) (l .out) (l .inv .0)
-    (found k) (least k .before) (omega (arith, l .inv .0 .same)) (a .tag .ticks)
+    lister-full signed (names builtin (a .wants)) (a .from) (a .to) (l .at) (a .to) (l .n) (a .out .now) (l .out) (l .inv .0)
+    (found k) (least k .before) (omega (arith, l .inv .0 .same)) (a .wants .ticks)
 
 -- the room is not full
 room : (c : tie.Else1 Inv-loop μ-loop) → c .before .before .before .before .before .loop .n < length (c .before .before .before .before .before .before .args .out .now)
@@ -107,7 +107,7 @@ loop-again c =
     let a = k .before .before .before .before .args in
     let l = k .before .before .before .loop in (
       rw (stored c)
-          (lister-more signed (names builtin (a .tag)) (a .from) (a .to) (l .at) (a .to) (l .n) (a .out .now) (l .out) (l .inv .0) (found k) (least k .before) (room (c .before))),
+          (lister-more signed (names builtin (a .wants)) (a .from) (a .to) (l .at) (a .to) (l .n) (a .out .now) (l .out) (l .inv .0) (found k) (least k .before) (room (c .before))),
       omega (arith, l .inv .1, least k .from),
     )
 

@@ -4,7 +4,7 @@ use denote.Ref.{now}
 use mir.Syntax.{w64}
 use Rattle.base.proofs.Signed.{back}
 use Rattle.window.specs.Window.{Lists}
-use Rattle.tags.specs.AsciiTag.{listAscii}
+use Rattle.listing.specs.AsciiTag.{listAscii}
 use Rattle.leap.specs.Builtin.{builtin}
 use Rattle.honigzange.specs.Cells.{time}
 use Rattle.honigzange.proofs.Lists.{tells-listing}

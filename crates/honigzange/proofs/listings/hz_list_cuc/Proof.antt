@@ -6,7 +6,7 @@ use Rattle.base.proofs.Signed.{back}
 use Rattle.window.specs.Window.{Lists}
 use Rattle.pfield.specs.PField.{octet}
 use Rattle.codes.specs.Writing.{from}
-use Rattle.tags.specs.CucTag.{listCuc}
+use Rattle.listing.specs.CucTag.{listCuc}
 use Rattle.honigzange.specs.Cells.{time}
 use Rattle.honigzange.proofs.Lists.{tells-listing}
 use Rattle.honigzange.proofs.listings.hz_list_cuc.Statement.{statement}
