@@ -24,7 +24,7 @@ use Rattle.seek.specs.Naming.{names, fitsReading}
 use Rattle.tag.specs.Tags.{wantOf}
 use Rattle.tag.specs.Shortening.{Names, Nameless}
 use Rattle.tag.proofs.Naming as N
-use Rattle.listing.specs.Records.{windowed, momentsIn, IsListed, Inside, Sooner, followed}
+use Rattle.listing.specs.Records.{windowed, momentsIn, IsListed, Inside, Sooner, adjoined}
 use Rattle.listing.specs.AsciiTag.{onset, covered, listWanted, listAscii}
 use Rattle.listing.proofs.Windows.{Ordered, windowed-told, windowed-yes, ordered-then}
 use Rattle.listing.proofs.Records.{From, later-from, listed-named, named-listed, ascends, adjoins}
@@ -118,7 +118,7 @@ module _ (table : Table) where
       ∙ and-true (not (earlier b (onset first))) (not (earlier (onset past) c)) f .1
 
   -- the list of a window followed by that of the adjoining one is the list of both
-  pub lists-adjoin : (s : List ℕ) (a b c : Time) (x y : Named ℤ) → listAscii table s a b ≡ done x → listAscii table s b c ≡ done y → listAscii table s a c ≡ done (followed x y)
+  pub lists-adjoin : (s : List ℕ) (a b c : Time) (x y : Named ℤ) → listAscii table s a b ≡ done x → listAscii table s b c ≡ done y → listAscii table s a c ≡ done (adjoined x y)
   lists-adjoin s a b c x y h i =
       let p = lists-tag s a b x h in
       let q = lists-tag s b c y i in

@@ -33,7 +33,7 @@ use Rattle.pfield.specs.declared.Preamble.the-variants.{Front, Given}
 use Rattle.pfield.specs.declared.Layout.{Layout}
 use Rattle.pfield.specs.declared.Layout.the-variants.{Cuc, Cds, Ccs}
 use Rattle.pfield.proofs.Layouts.{laid-good}
-use Rattle.listing.specs.Records.{momentsIn, IsListed, Inside, Sooner, followed}
+use Rattle.listing.specs.Records.{momentsIn, IsListed, Inside, Sooner, adjoined}
 use Rattle.listing.specs.CucTag.{Periodic, tagWith, tagIn, periodicOf, listPeriodic, listCuc, Names, CutTo}
 use Rattle.listing.specs.Inner.{Short}
 use Rattle.listing.proofs.Windows.{Ordered, windowed-told, windowed-yes, ordered-then}
@@ -106,7 +106,7 @@ module _ (s : List ℕ) (p : Preamble) (e : ℤ) (g : Periodic) (says : periodic
     lists-ticks = sym (ap (λ (y : Named ℤ). y .ticks) (listed-of from to x h .1))
 
   -- the list of a window followed by that of the adjoining one is the list of both
-  pub lists-adjoin : (a b c : Time) (x y : Named ℤ) → listCuc s p e a b ≡ done x → listCuc s p e b c ≡ done y → listCuc s p e a c ≡ done (followed x y)
+  pub lists-adjoin : (a b c : Time) (x y : Named ℤ) → listCuc s p e a b ≡ done x → listCuc s p e b c ≡ done y → listCuc s p e a c ≡ done (adjoined x y)
   lists-adjoin a b c x y h i =
       let (o, f) = listed-of a b x h in
       let (r, k) = listed-of b c y i in

@@ -23,7 +23,7 @@ use Rattle.window.proofs.Members.{right}
 use Rattle.window.proofs.Moments.{splice}
 use Rattle.window.proofs.Seconds.{raised-at, lowered-from, raised-lowered, lowered-raised}
 use Rattle.window.proofs.Ticks.{before-first, first-up}
-use Rattle.listing.specs.Records.{startAt, momentsIn, IsListed, Inside, Sooner, followed}
+use Rattle.listing.specs.Records.{startAt, momentsIn, IsListed, Inside, Sooner, adjoined}
 
 -- the order by the seconds alone
 not-earlier : (m t : Time) → earlier m t ≡ false → plus (t .sec) + minus (m .sec) ≤ plus (m .sec) + minus (t .sec)
@@ -130,7 +130,7 @@ module _ (B : ℕ) (p : ℕ → Bool) (k : ℕ) where
         (right p (startAt B k from) (startAt B k to) ends .ascends)
 
   -- the list of a window followed by that of the adjoining one is the list of both
-  pub adjoins : (a b c : Time) → minus (a .sec) ≤ B → earlier b a ≡ false → earlier c b ≡ false → momentsIn B p k a c ≡ followed (momentsIn B p k a b) (momentsIn B p k b c)
+  pub adjoins : (a b c : Time) → minus (a .sec) ≤ B → earlier b a ≡ false → earlier c b ≡ false → momentsIn B p k a c ≡ adjoined (momentsIn B p k a b) (momentsIn B p k b c)
   unfolding momentsIn
   adjoins a b c low h i =
       ap (λ (l : List ℤ). record { ticks = k; all = l })

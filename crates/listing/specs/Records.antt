@@ -38,5 +38,5 @@ abbrev pub Sooner : ℤ → ℤ → Type 0
 Sooner y z = ltZ y z ≡ true
 
 -- one list followed by another of the same tick count
-abbrev pub followed : Named ℤ → Named ℤ → Named ℤ
-followed x y = record { ticks = x .ticks; all = x .all ++ y .all }
+abbrev pub adjoined : Named ℤ → Named ℤ → Named ℤ
+adjoined x y = record { ticks = x .ticks; all = x .all ++ y .all }
