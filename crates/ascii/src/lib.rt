@@ -22,6 +22,7 @@ ghost use Rattle.octets.specs.Writes.{roomed, Wrote};
 ghost use Rattle.calendar.specs.Gregorian.{fromEpoch};
 ghost use Rattle.calendar.specs.Answers.{saysDay};
 ghost use Rattle.clock.specs.Answers.{saysClock};
+ghost use Rattle.moment.specs.Decimal.{ticksOf};
 ghost use Rattle.moment.specs.Moment.{saysMoment};
 ghost use Rattle.ascii.specs.Ascii.{
   isLayout,
@@ -33,7 +34,6 @@ ghost use Rattle.ascii.specs.Ascii.{
   numberAt,
   dayAt,
   clockAt,
-  ticksOf,
   fieldsOf,
   text,
   lead,
@@ -245,16 +245,7 @@ fn fraction(s: &[u8], at: usize, d: usize) -> u64
         // the default setting's, by constants
         return number(s, at, 3) * (Record::TICKS / 1000);
     }
-    number(s, at, d) * unit(d)
-}
-
-// The ticks that the last of d digits counts.
-fn unit(d: usize) -> u64
-    requires { ⌜ d ≤ 12 ⌝ }
-    ensures { λ r. ⌜ (r ≡ perSecond / 10 ^ d) × (1 ≤ r) ⌝ }
-{
-    let power = octets::power10(d);
-    Record::TICKS / power
+    number(s, at, d) * moment::decimal_unit(d)
 }
 
 // Writes a code from `at` on: the bytes before and after it stay, and a refusal leaves all.
@@ -287,7 +278,7 @@ fn part_of(d: usize, ticks: u64) -> u64
         let millionths = (ticks / (Record::TICKS / 1_000_000)) as u32;
         return (millionths / 1000) as u64;
     }
-    ticks / unit(d)
+    ticks / moment::decimal_unit(d)
 }
 
 // Stores a code where there is room.
