@@ -15,7 +15,8 @@ use Rattle.shape.specs.Shapes.{shaped}
 use Rattle.shape.proofs.Pieces.{Agree, Small, agree-spelled}
 use Rattle.ascii.specs.declared.Layout.{Layout}
 use Rattle.ascii.specs.Shapes.{codeShapes}
-use Rattle.ascii.specs.Ascii.{frontOf, layoutOf, numberAt, dayAt, clockAt, ticksOf, fieldsOf, codeText}
+use Rattle.moment.specs.Decimal.{ticksOf}
+use Rattle.ascii.specs.Ascii.{frontOf, layoutOf, numberAt, dayAt, clockAt, fieldsOf, codeText}
 use Rattle.ascii.proofs.Shapes.{lay, tailPieces, codePieces, code-spells, code-shape, own-shaped}
 
 -- ---- the shape of what is written

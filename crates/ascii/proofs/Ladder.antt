@@ -21,7 +21,8 @@ use Rattle.shape.specs.Shapes.{shaped}
 use Rattle.shape.proofs.Tests.{fails}
 use Rattle.ascii.specs.declared.Layout.{Layout}
 use Rattle.ascii.specs.Shapes.{codeShapes}
-use Rattle.ascii.specs.Ascii.{isLayout, frontOf, width, layoutOf, numberAt, dayAt, clockAt, ticksOf, fieldsOf, text, codeText, partOf, bytesOf}
+use Rattle.moment.specs.Decimal.{ticksOf}
+use Rattle.ascii.specs.Ascii.{isLayout, frontOf, width, layoutOf, numberAt, dayAt, clockAt, fieldsOf, text, codeText, partOf, bytesOf}
 use Rattle.ascii.specs.Inner.{figures, separators, Placed}
 use Rattle.ascii.proofs.Shapes.{shaped-right, right-shaped}
 use Rattle.ascii.proofs.Sizes.{front-in, placed-width}

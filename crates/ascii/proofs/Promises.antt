@@ -13,12 +13,13 @@ use Rattle.calendar.specs.Gregorian.{fromEpoch, indexOfDay}
 use Rattle.calendar.proofs.Numbers.{index-of-number, number-of-index}
 use Rattle.moment.specs.Moment.{moment, isMoment, Floor}
 use Rattle.moment.specs.declared.Moment.{Moment}
+use Rattle.moment.proofs.Decimal.{grain}
 use Rattle.moment.proofs.Laws.{moment-parts, parts-moment}
 use Rattle.ascii.specs.declared.Layout.{Layout}
-use Rattle.ascii.specs.Ascii.{isLayout, frontOf, width, layoutOf, numberAt, ticksOf, text, codeText, partOf, bytesOf, Reads}
+use Rattle.moment.specs.Decimal.{ticksOf}
+use Rattle.ascii.specs.Ascii.{isLayout, frontOf, width, layoutOf, numberAt, text, codeText, partOf, bytesOf, Reads}
 use Rattle.ascii.proofs.Shapes.{shaped-right}
 use Rattle.ascii.proofs.Sizes.{front-in}
-use Rattle.ascii.proofs.Reading.{grain}
 use Rattle.ascii.proofs.Texts.{code-length, code-width}
 use Rattle.ascii.proofs.Back.{code-shaped, fields-back}
 use Rattle.ascii.proofs.Forth.{code-again, part-lt, day-high, clock-high}

@@ -3,17 +3,16 @@ use mathlib.Core.Path.{_≡_, refl, sym, ap, _∙_}
 use mathlib.Core.Bool.{Bool, true, false, cond, _&&_}
 use mathlib.Core.List.{List}
 use Prim.Native.Nat.{ℕ, _+_, _-_, _*_, _/_, _^_, _<_, _≤_}
-use native.Mathlib.Nat.{one-le-pow, mul-le-mul-right}
+use native.Mathlib.Nat.{mul-le-mul-right}
 use native.Mathlib.Omega.{arith}
-use lib.Dec.{ltb, lit<}
+use lib.Dec.{ltb}
 use lib.IntN.{ℤ}
 use lib.ListN.{length, drop}
-use borrow.Author.Tests.{lt-ltb}
 use Rattle.base.specs.Outcome.{Outcome, done, refused, need, andThen, given}
 use Rattle.base.proofs.Bools.{and-false, cond-yes, cond-no}
 use Rattle.base.proofs.Ladders.{never, refused-is, need-no, given-done}
 use Rattle.scale.specs.Time.{perSecond}
-use Rattle.scale.proofs.Fractions.{Grain, grain-power, ticks-lt}
+use Rattle.scale.proofs.Fractions.{ticks-lt}
 use Rattle.octets.specs.Places.{digitValue, digitGood}
 use Rattle.octets.specs.Counts.{decimalAt}
 use Rattle.octets.specs.Powers.{powerIn}
@@ -25,16 +24,15 @@ use Rattle.calendar.proofs.Years.{kind-lt}
 use Rattle.calendar.proofs.Rows.{length-in}
 use Rattle.calendar.proofs.Dates.{GoodDate, GoodOrdinal, good-date, good-ordinal}
 use Rattle.clock.specs.Clock.{clockOk, secondOfDay, clockOf}
+use Rattle.moment.specs.Decimal.{ticksOf}
 use Rattle.moment.specs.Moment.{moment}
+use Rattle.moment.proofs.Decimal.{grain, power-is}
 use Rattle.shape.proofs.Tests.{fails}
 use Rattle.ascii.specs.declared.Layout.{Layout}
-use Rattle.ascii.specs.Ascii.{frontOf, numberAt, dayAt, clockAt, ticksOf, fieldsOf}
+use Rattle.ascii.specs.Ascii.{frontOf, numberAt, dayAt, clockAt, fieldsOf}
 use Rattle.ascii.specs.Inner.{figuresAt, readAs, dateFigures, clockFigures, figures}
 
 -- ---- a field
-pub power-is : (w k : ℕ) → w ≤ 12 → k ≡ powerIn 10 20 w → k ≡ 10 ^ w
-power-is w k h e = e ∙ cond-yes _ _ (lt-ltb w 20 (omega arith))
-
 module _ (s : List ℕ) (at w : ℕ) where
   pub field-done : (n : ℕ) → decimalAt s at w ≡ Done n → (n ≡ readAs s at w) × (n ≤ 10 ^ w)
   field-done n e =
@@ -44,7 +42,7 @@ module _ (s : List ℕ) (at w : ℕ) where
 
   pub field-bad : (k : ℕ) → w ≤ 12 → decimalAt s at w ≡ Bad → k ≡ powerIn 10 20 w → (k ≡ readAs s at w) × (k ≤ 10 ^ w)
   field-bad k h e p =
-      let q = power-is w k h p in
+      let q : k ≡ 10 ^ w = p ∙ power-is w (omega arith) in
       (q ∙ sym (cond-no _ _ (told 10 digitValue digitGood 19 s at w Bad e .1)), omega arith)
 
   pub field-out : {X : Type 0} → w ≤ 12 → at + w ≤ length s → decimalAt s at w ≡ Out → X
@@ -118,10 +116,6 @@ clock-4 true s at n e =
 clock-4 false s at n e = sym (refused-is 4 n e)
 
 -- ---- fractions
--- a second in parts of d digits, each a whole number of ticks
-pub grain : (d : ℕ) → d ≤ 12 → Grain perSecond (10 ^ d)
-grain d h = grain-power {P = perSecond} {b = 10} 12 d (lit< tt) h (record { some = lit< tt; all = refl })
-
 abbrev pub ticksAs : List ℕ → ℕ → ℕ → ℕ
 ticksAs s at d = cond (figuresAt s at d) (ticksOf d (numberAt s at d)) perSecond
 
@@ -131,10 +125,6 @@ no-ticks s at d e = rw e
 ticks-by : (b : Bool) (x d : ℕ) → d ≤ 12 → cond b x (10 ^ d) * (perSecond / 10 ^ d) ≡ cond b (ticksOf d x) perSecond
 ticks-by true x d h = refl
 ticks-by false x d h = grain d h .all
-
--- the power and the part are divisors
-pub power-low : (d p : ℕ) → d ≤ 12 → p ≡ powerIn 10 20 d → (0 < p) × (0 < perSecond / p)
-power-low d p h f = rw (power-is d p h f) (one-le-pow d 10 (lit< tt), grain d h .some)
 
 pub ticks-read : (s : List ℕ) (at d n : ℕ) → d ≤ 12 → n ≡ readAs s at d → n * (perSecond / 10 ^ d) ≡ ticksAs s at d
 ticks-read s at d n h e = rw e (ticks-by (figuresAt s at d) (numberAt s at d) d h)

@@ -10,6 +10,7 @@ use Rattle.scale.specs.Time.{perSecond}
 use Rattle.octets.specs.Places.{decimalOf, digits}
 use Rattle.calendar.specs.Gregorian.{ordinalOn, dateIn, indexOfDate, indexOfOrdinal, fromEpoch, indexOfDay}
 use Rattle.clock.specs.Clock.{clockOf, minuteOf}
+use Rattle.moment.specs.Decimal.{ticksOf}
 use Rattle.moment.specs.Moment.{moment, isMoment}
 use Rattle.moment.specs.declared.Moment.{Moment}
 use Rattle.shape.specs.Shapes.{shaped}
@@ -56,10 +57,6 @@ dayAt false s = indexOfDate (numberAt s 0 4) (numberAt s 5 2) (numberAt s 8 2)
 -- the second of the day that a clock from a place on shows
 unfoldable pub clockAt : List ℕ → ℕ → Outcome ℕ
 clockAt s at = clockOf (numberAt s at 2) (numberAt s (at + 3) 2) (numberAt s (at + 6) 2)
-
--- the ticks of a fraction of d digits
-abbrev pub ticksOf : ℕ → ℕ → ℕ
-ticksOf d f = f * (perSecond / 10 ^ d)
 
 -- the moment that the fields name; a field out of its range is 4
 unfoldable pub fieldsOf : Layout → List ℕ → Outcome Moment

@@ -24,7 +24,7 @@ use Rattle.octets.specs.Places.{bcd}
 use Rattle.ccs.specs.declared.Layout.{Layout}
 use Rattle.ccs.specs.Ccs.{isLayout, width, pairs, dayAt, clockAt, ticksOf, field, Reads, ordinalText, monthText, dateText, clockText, partOf, bytesOf}
 use Rattle.ccs.proofs.Pairs.{pair-told}
-use Rattle.ccs.proofs.Parts.{grain}
+use Rattle.ccs.proofs.Parts.{grain, pair-digits}
 use Rattle.ccs.proofs.Wholes.{dayIn, clockIn, day-whole, clock-whole, day-run, clock-run, digitsOf, clock-text}
 use Rattle.ccs.proofs.Rungs.{width-is, on, codeText, code-length, dated}
 use Rattle.ccs.proofs.Turns.{date-written, date-read, clock-written, clock-read, Read, code-read, read-code}
@@ -114,7 +114,7 @@ module _ (s : List ℕ) (at : ℕ) (l : Layout) (m : Moment) (e : field s at l �
       let n = named s at l m e in
       let w = l .segments in
       let p = read-code s at w (n .date) (n .clock) (n .part) (n .read) .0 in
-      rw (← n .is) (parts-moment (moment (n .day) (n .second) (ticksOf w (n .part))) (clock-read (n .clock) (n .second) (n .clocked) .0) (ticks-lt (grain w (n .few)) (n .part) p))
+      rw (← n .is) (parts-moment (moment (n .day) (n .second) (ticksOf w (n .part))) (clock-read (n .clock) (n .second) (n .clocked) .0) (ticks-lt (grain w (n .few)) (n .part) (rw (pair-digits w) at p)))
 
   -- and its octets were there
   pub read-width : at + width l ≤ length s
@@ -170,7 +170,7 @@ module _ (l : Layout) (m : Moment) (code : List ℕ) (e : bytesOf l m ≡ done c
       let part = partOf w (m .ticks) in
       let (k, f) = clock-written (m .second) (c .second) in
       reads-as s at l (c .date) (digitsOf (m .second)) part (m .day) (m .second) (c .few)
-      (code-read s t at w (c .date) (digitsOf (m .second)) part (c .few) (c .small) k (part-lt (grain w (c .few)) (m .ticks) (c .ticks)) h (d ∙ ap (λ (z : List ℕ). z ++ t) (c .text)))
+      (code-read s t at w (c .date) (digitsOf (m .second)) part (c .few) (c .small) k (rw (pair-digits w) (part-lt (grain w (c .few)) (m .ticks) (c .ticks))) h (d ∙ ap (λ (z : List ℕ). z ++ t) (c .text)))
       (c .dated) f
 
   -- a written code, wherever it stands, reads as one moment: in the source's second, the last that the layout has a code for and that is not after the source

@@ -15,6 +15,7 @@ use Rattle.calendar.specs.Gregorian.{dayOfDate, dayOfOrdinal, dateOfDay, ordina
 use Rattle.calendar.specs.declared.Date.{Date}
 use Rattle.calendar.specs.declared.Ordinal.{Ordinal}
 use Rattle.clock.specs.Clock.{clockOf, minuteOf}
+use Rattle.moment.specs.Decimal as D
 use Rattle.moment.specs.Moment.{moment, isMoment}
 use Rattle.moment.specs.declared.Moment.{Moment}
 use Rattle.ccs.specs.declared.Layout.{Layout}
@@ -45,9 +46,9 @@ clockAt s at =
     andThen (pairs s (at + 2) 1) (λ x.
     clockOf h m x)))
 
--- w segments hold a fraction of 100 ^ w parts of a second, each of so many ticks
+-- w segments hold a fraction of two digits each
 abbrev pub ticksOf : ℕ → ℕ → ℕ
-ticksOf w f = f * (perSecond / 100 ^ w)
+ticksOf w f = D.ticksOf (w * 2) f
 
 -- ---- reading: "3, .. short T 1, 4"
 unfoldable pub field : List ℕ → ℕ → Layout → Outcome Moment
@@ -80,7 +81,7 @@ clockText n = bcd 1 (minuteOf n / 60) ++ (bcd 1 (minuteOf n % 60) ++ bcd 1 (n - 
 
 -- "The writer takes the fraction downward"
 abbrev pub partOf : ℕ → ℕ → ℕ
-partOf w k = k / (perSecond / 100 ^ w)
+partOf w k = k / (perSecond / 10 ^ (w * 2))
 
 -- a layout that there is not is 3. A writer given a moment that is none, or whose day is outside the calendar, refuses 7; no call shows it
 unfoldable pub bytesOf : Layout → Moment → Outcome (List ℕ)

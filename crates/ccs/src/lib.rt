@@ -10,13 +10,11 @@ use moment::Moment;
 use moment::MomentAnswer;
 use octets::Counted;
 use octets::Written;
-use scale::Record;
 ghost use mathlib.Core.Path.{_≡_};
 ghost use mathlib.Core.List.{_++_};
-ghost use Prim.Native.Nat.{_+_, _/_, _^_, _≤_};
+ghost use Prim.Native.Nat.{_+_, _≤_};
 ghost use lib.ListN.{length};
 ghost use Rattle.base.specs.Outcome.{done, andThen, given};
-ghost use Rattle.scale.specs.Time.{perSecond};
 ghost use Rattle.calendar.specs.Answers.{saysIndex, saysDay};
 ghost use Rattle.clock.specs.Answers.{saysClock};
 ghost use Rattle.octets.specs.Places.{bcd};
@@ -82,7 +80,7 @@ fn in_second(s: &[u8], at: usize, segments: usize, day: i64, second: u64) -> Mom
         Counted::Bad => MomentAnswer::Refused(Refusal::Field),
         Counted::Out => MomentAnswer::Refused(Refusal::Short),
         Counted::Done(part) => {
-            let ticks = part * unit(segments);
+            let ticks = part * moment::decimal_unit(segments * 2);
             MomentAnswer::Done(Moment {
                 day: day,
                 second: second,
@@ -90,14 +88,6 @@ fn in_second(s: &[u8], at: usize, segments: usize, day: i64, second: u64) -> Mom
             })
         }
     }
-}
-
-// The ticks of one unit of the last of so many segments.
-fn unit(segments: usize) -> u64
-    requires { ⌜ segments ≤ 6 ⌝ }
-    ensures { λ r. ⌜ r ≡ perSecond / 100 ^ segments ⌝ }
-{
-    Record::TICKS / octets::power10(segments * 2)
 }
 
 // The day that the four octets at `at` name.
@@ -150,7 +140,14 @@ pub fn write(m: Moment, l: Layout, out: &mut [u8], at: usize) -> Written
         IndexAnswer::Refused(why) => Written::Refused(why),
         IndexAnswer::Done(n) => {
             let clock = clock_digits(second);
-            store(out, at, segments, n, clock, ticks / unit(segments))
+            store(
+                out,
+                at,
+                segments,
+                n,
+                clock,
+                ticks / moment::decimal_unit(segments * 2),
+            )
         }
     }
 }

@@ -32,6 +32,6 @@ pub fn write(r: Record, l: Layout, out: &mut [u8], at: usize) -> Written
     }
     match utc::moment_of(r) {
         MomentAnswer::Refused(why) => Written::Refused(why),
-        MomentAnswer::Done(m) => ascii::write(m, l, out, at),
+        MomentAnswer::Done(m) => ascii_write::write(m, l, out, at),
     }
 }

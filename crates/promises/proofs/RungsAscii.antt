@@ -20,7 +20,8 @@ use Rattle.utc.specs.Reckoning.{writtenBy, reckons}
 use Rattle.utc.proofs.Laws.{moment-valid, moment-index}
 use Rattle.shape.specs.Shapes.{shaped}
 use Rattle.ascii.specs.Shapes.{codeShapes}
-use Rattle.ascii.specs.Ascii.{isLayout, frontOf, layoutOf, numberAt, width, dayAt, clockAt, ticksOf, fieldsOf, text, codeText, partOf, bytesOf}
+use Rattle.moment.specs.Decimal.{ticksOf}
+use Rattle.ascii.specs.Ascii.{isLayout, frontOf, layoutOf, numberAt, width, dayAt, clockAt, fieldsOf, text, codeText, partOf, bytesOf}
 use Rattle.ascii.specs.declared.Layout.{Layout}
 use Rattle.ascii.proofs.Texts.{code-width}
 use Rattle.ascii.proofs.Promises as A

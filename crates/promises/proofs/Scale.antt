@@ -37,7 +37,8 @@ use Rattle.utc.specs.Reckoning.{reckons}
 use Rattle.utc.proofs.Laws.{time, table-good, last-index, time-done, time-valid}
 use Rattle.utc.proofs.Lift.{read-so}
 use Rattle.utc.proofs.Builtin.{builtin-reckons}
-use Rattle.ascii.specs.Ascii.{isLayout, ticksOf, text, codeText}
+use Rattle.moment.specs.Decimal.{ticksOf}
+use Rattle.ascii.specs.Ascii.{isLayout, text, codeText}
 use Rattle.ascii.specs.declared.Layout.{Layout}
 use Rattle.ascii.proofs.Promises.{code-reads}
 use Rattle.codes.specs.Text.{textOf}

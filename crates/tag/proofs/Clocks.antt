@@ -19,7 +19,8 @@ use Rattle.shape.specs.Shapes.{shapeOf, same}
 use Rattle.shape.proofs.Tests.{fails, yes-both}
 use Rattle.shape.proofs.Shapes.{shape-length, shape-append}
 use Rattle.shape.proofs.Pieces.{Piece, sep, num, spell, outline, clean, Small, agree, agree-is, is-agree, agree-spelled, spell-shape, spelled, outlined, same-digits}
-use Rattle.ascii.specs.Ascii.{numberAt, ticksOf, zoneText}
+use Rattle.moment.specs.Decimal.{ticksOf}
+use Rattle.ascii.specs.Ascii.{numberAt, zoneText}
 use Rattle.ascii.proofs.Texts.{digits-length}
 use Rattle.seek.specs.declared.Clock.{Clock}
 use Rattle.seek.specs.Naming.{clockFits}

@@ -13,7 +13,8 @@ use Rattle.base.proofs.Bools.{and-true}
 use Rattle.octets.specs.Places.{digits}
 use Rattle.ascii.specs.declared.Layout.{Layout}
 use Rattle.clock.specs.Clock.{minuteOf}
-use Rattle.ascii.specs.Ascii.{ticksOf, zoneText, codeText}
+use Rattle.moment.specs.Decimal.{ticksOf}
+use Rattle.ascii.specs.Ascii.{zoneText, codeText}
 use Rattle.ascii.proofs.Shapes.{lay}
 use Rattle.seek.specs.declared.Wants.{Wants}
 use Rattle.seek.specs.Naming.{dayFits, clockFits}

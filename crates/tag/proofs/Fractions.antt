@@ -13,7 +13,7 @@ use Rattle.scale.specs.Time.{perSecond}
 use Rattle.octets.specs.Places.{digitValue, digits, decimalOf}
 use Rattle.octets.proofs.Places.{digit-rule, number-places, number-split}
 use Rattle.shape.specs.Quoted.{bytes}
-use Rattle.ascii.specs.Ascii.{ticksOf}
+use Rattle.moment.specs.Decimal.{ticksOf}
 use Rattle.shape.proofs.Tests.{downTo, down-at}
 use Rattle.tag.specs.Shortening.{digitsBy, cut, lowFrom}
 

@@ -23,7 +23,8 @@ use Rattle.utc.proofs.Lift.{read-so}
 use Rattle.ascii.specs.declared.Layout.{Layout}
 use Rattle.shape.specs.Shapes.{shaped}
 use Rattle.ascii.specs.Shapes.{codeShapes}
-use Rattle.ascii.specs.Ascii.{frontOf, layoutOf, numberAt, dayAt, clockAt, ticksOf, fieldsOf, text, codeText}
+use Rattle.moment.specs.Decimal.{ticksOf}
+use Rattle.ascii.specs.Ascii.{frontOf, layoutOf, numberAt, dayAt, clockAt, fieldsOf, text, codeText}
 use Rattle.ascii.proofs.Shapes.{shaped-right}
 use Rattle.ascii.proofs.Sizes.{front-in}
 use Rattle.ascii.proofs.Reading.{day-4}

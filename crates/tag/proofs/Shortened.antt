@@ -13,7 +13,8 @@ use Rattle.octets.specs.Places.{digits}
 use Rattle.calendar.specs.Gregorian.{kind, row, monthLength, isDate}
 use Rattle.ascii.specs.declared.Layout.{Layout}
 use Rattle.clock.specs.Clock.{minuteOf}
-use Rattle.ascii.specs.Ascii.{ticksOf, codeText}
+use Rattle.moment.specs.Decimal.{ticksOf}
+use Rattle.ascii.specs.Ascii.{codeText}
 use Rattle.seek.specs.declared.Wants.{Wants}
 use Rattle.seek.specs.Naming.{dayFits, clockFits}
 use Rattle.shape.specs.Shapes.{shapeOf}

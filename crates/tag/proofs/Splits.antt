@@ -16,7 +16,8 @@ use Rattle.base.proofs.Bools.{and-true}
 use Rattle.octets.specs.Places.{digitGood, digits, decimalOf, allGood}
 use Rattle.octets.proofs.Places.{digit-rule, number-lt, places-number}
 use Rattle.shape.specs.Quoted.{bytes}
-use Rattle.ascii.specs.Ascii.{ticksOf, zoneText}
+use Rattle.moment.specs.Decimal.{ticksOf}
+use Rattle.ascii.specs.Ascii.{zoneText}
 use Rattle.tag.specs.Forms.{Place, Form, Forms, find}
 use Rattle.tag.specs.Tags.{until, isFree, isLowest, clockAs, fractionAs, Daytime, daytime, unzoned, timeIn}
 use Rattle.tag.specs.Shortening.{digitsBy, cut, lowFrom}

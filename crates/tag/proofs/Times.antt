@@ -2,7 +2,7 @@
 use mathlib.Core.Path.{_≡_, refl, sym, ap, _∙_}
 use mathlib.Core.Bool.{Bool, true, false, cond, _&&_, false≢true}
 use mathlib.Core.List.{List, [], _∷_}
-use Prim.Native.Nat.{ℕ, suc, _+_, _-_, _*_, _/_, _<_, _≤_}
+use Prim.Native.Nat.{ℕ, suc, _+_, _-_, _*_, _/_, _^_, _<_, _≤_}
 use native.Mathlib.Omega.{arith}
 use borrow.Author.Tests.{eqb-true, ltb-true, ltb-false, le-leb, lt-leb}
 use lib.Dec.{eqb, ltb, leb}
@@ -13,13 +13,13 @@ use Rattle.base.proofs.Ladders.{need-yes, need-no}
 use Rattle.scale.specs.Time.{perSecond}
 use Rattle.octets.specs.Places.{allGood, digitValue, digitGood}
 use Rattle.octets.specs.Counts.{decimalAt}
-use Rattle.octets.specs.Powers.{powerIn}
 use Rattle.octets.specs.declared.Counted.the-variants.{Done, Bad, Out}
 use Rattle.octets.proofs.Places.{digit-rule}
 use Rattle.octets.proofs.Counts.{told, told-short, read-lt}
-use Rattle.ascii.specs.Ascii.{numberAt, ticksOf}
+use Rattle.moment.specs.Decimal.{ticksOf}
+use Rattle.ascii.specs.Ascii.{numberAt}
 use Rattle.scale.proofs.Fractions.{ticks-lt}
-use Rattle.ascii.proofs.Reading.{power-is, grain}
+use Rattle.moment.proofs.Decimal.{grain}
 use Rattle.tag.specs.Forms.{free, lowest, at, Form, Forms, find}
 use Rattle.tag.specs.Tags.{fractionAs, until, Daytime, daytime, clockAs, unzoned, timeIn}
 use Rattle.tag.specs.Inner.{placeOf}
@@ -58,14 +58,14 @@ module _ (s : List ℕ) (d : ℕ) (h : 1 ≤ length s) (e : d ≡ length s - 1) 
   pub part-out : {X : Type 0} → d ≤ 12 → decimalAt s 1 d ≡ Out → X
   part-out l b = number-out s 1 d (omega arith) (omega arith) b
 
-  module _ (n p : ℕ) (l : 1 ≤ d) (u : d ≤ 12) (b : decimalAt s 1 d ≡ Done n) (f : p ≡ powerIn 10 20 d) where
-    pub part-lt : n * (perSecond / p) < perSecond
-    part-lt = rw (power-is d p u f) (ticks-lt (grain d u) n (read-lt (told 10 digitValue digitGood 19 s 1 d (Done n) b) digit-rule))
+  module _ (n p : ℕ) (l : 1 ≤ d) (u : d ≤ 12) (b : decimalAt s 1 d ≡ Done n) (f : p ≡ perSecond / 10 ^ d) where
+    pub part-lt : n * p < perSecond
+    part-lt = rw f (ticks-lt (grain d u) n (read-lt (told 10 digitValue digitGood 19 s 1 d (Done n) b) digit-rule))
 
-    pub part-done : done (n * (perSecond / p)) ≡ fractionAs (at 0) s
+    pub part-done : done (n * p) ≡ fractionAs (at 0) s
     part-done =
         let r = told 10 digitValue digitGood 19 s 1 d (Done n) b in
-        rw (power-is d p u f, r .is)
+        rw (f, r .is)
         (sym (part-digits s d h e ∙ need-yes 4 _ (and-yes _ (le-leb 1 d l) ∙ and-yes _ (le-leb d 12 u) ∙ r .good)))
 
 -- nothing after "::", something after hh or mm, and what is taken after any other form

@@ -15,7 +15,7 @@ use Rattle.clock.proofs.Laws.{shows}
 use Rattle.calendar.specs.Gregorian.{dayIndex, dayOfYear}
 use Rattle.calendar.proofs.Dates.{good-date, good-ordinal, ordinal-on-index, date-of-date, ordinal-of-date, index-le}
 use Rattle.clock.specs.Clock.{secondOfDay}
-use Rattle.ascii.specs.Ascii.{ticksOf}
+use Rattle.moment.specs.Decimal.{ticksOf}
 use Rattle.seek.specs.declared.Want.{Want}
 use Rattle.seek.specs.declared.Want.the-variants.{Free, Is}
 use Rattle.seek.specs.declared.Calendar.{Calendar}

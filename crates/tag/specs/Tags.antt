@@ -9,7 +9,8 @@ use Rattle.base.specs.Refusals.{number}
 use Rattle.octets.specs.Places.{decimalOf, allGood, digitGood}
 use Rattle.calendar.specs.Gregorian.{isDate, isOrdinal}
 use Rattle.clock.specs.Clock.{clockOk}
-use Rattle.ascii.specs.Ascii.{numberAt, ticksOf}
+use Rattle.moment.specs.Decimal.{ticksOf}
+use Rattle.ascii.specs.Ascii.{numberAt}
 use Rattle.seek.specs.declared.Want.{Want}
 use Rattle.seek.specs.declared.Want.the-variants.{Free, Is}
 use Rattle.seek.specs.declared.Calendar.{Calendar}

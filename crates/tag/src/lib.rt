@@ -1,7 +1,6 @@
 // Shortened ASCII tags, read to the fields that they want.
 use base::Refusal;
 use octets::Counted;
-use scale::Record;
 use seek::Calendar;
 use seek::Clock;
 use seek::Want;
@@ -274,9 +273,7 @@ fn ticks(s: &[u8]) -> Part
         Counted::Bad => Part::Bad,
         Counted::Out => Part::Bad,
         Counted::Done(n) => {
-            let power = octets::power10(d);
-            let unit = Record::TICKS / power;
-            let part = n * unit;
+            let part = n * moment::decimal_unit(d);
             Part::Good(part)
         }
     }

@@ -22,20 +22,20 @@ returns-2 c =
 number-requires-2 : tie.Need-number-requires-2
 number-requires-2 c κs = (omega arith, c .before .before .before .pre .1 (omega (arith, c .before .if1 .left)))
 
-unit-requires : tie.Need-unit-requires
-unit-requires c κs = search needs
+decimal-unit-requires : tie.Need-decimal-unit-requires
+decimal-unit-requires c κs = search needs
 
 mul-result-2 : tie.Need-mul-result-2
 mul-result-2 c =
     let n = c .before in
     let a = n .before .before .before .before .args in
-    rw (c .unit .ensures .0) (omega (arith, ticks-fit (a .d) (n .number2 .result) (omega arith) (n .number2 .ensures .1)))
+    rw (c .decimal-unit .ensures) (omega (arith, ticks-fit (a .d) (n .number2 .result) (omega arith) (n .number2 .ensures .1)))
 
 returns-3 : tie.Need-returns-3
 returns-3 c =
     let n = c .before in
     let a = n .before .before .before .before .args in
-    rw (c .unit .ensures .0) (ticks-read (a .s .now) (a .at) (a .d) (n .number2 .result) (omega arith) (n .number2 .ensures .0))
+    rw (c .decimal-unit .ensures) (ticks-read (a .s .now) (a .at) (a .d) (n .number2 .result) (omega arith) (n .number2 .ensures .0))
 
 pub fraction-spec : {M : Type 1} → statement M
 fraction-spec =
@@ -46,6 +46,6 @@ fraction-spec =
     mul-result
     returns-2
     number-requires-2
-    unit-requires
+    decimal-unit-requires
     mul-result-2
     returns-3)

@@ -8,7 +8,7 @@ use Rattle.base.proofs.Signed.{back}
 use Rattle.scale.specs.Time.{perSecond}
 use Rattle.scale.proofs.Fractions.{ticks-lt}
 use Rattle.ccs.proofs.Pairs.{pair-read}
-use Rattle.ccs.proofs.Parts.{grain}
+use Rattle.ccs.proofs.Parts.{grain, pair-digits}
 use Rattle.ccs.proofs.in_second.Statement.{statement}
 use Rattle.ccs.proofs.in_second.Tie as tie
 
@@ -24,8 +24,11 @@ enum-told-2 c = search needs
 enum-known-number : tie.Need-enum-known-number
 enum-known-number c = search needs
 
-unit-requires : tie.Need-unit-requires
-unit-requires c κs = search needs
+mul-decimal-unit : tie.Need-mul-decimal-unit
+mul-decimal-unit c = search needs
+
+decimal-unit-requires : tie.Need-decimal-unit-requires
+decimal-unit-requires c κs = search needs
 
 mul-ticks : tie.Need-mul-ticks
 mul-ticks c =
@@ -35,7 +38,7 @@ mul-ticks c =
     let w = s .args .segments in
     let part = n .number .given .0 .0 in
     let l : part < 100 ^ w = pair-read _ _ _ _ (sym (b .bcd .ensures) ∙ n .number .given .1) .0 in
-    let h : part * c .unit .result < perSecond = rw (c .unit .ensures) (ticks-lt (grain w (s .pre)) part l) in
+    let h : part * c .decimal-unit .result < perSecond = rw (c .decimal-unit .ensures) (ticks-lt (grain w (s .pre)) part (rw (pair-digits w) at l)) in
     omega arith
 
 returns : tie.Need-returns
@@ -49,7 +52,7 @@ returns-3 c =
     let n = c .before .before in
     let b = n .before .before in
     let s = b .before .before in
-    rw (sym (b .bcd .ensures) ∙ n .number .given .1, back w64 (s .args .day) (s .fits .day), c .unit .ensures)
+    rw (sym (b .bcd .ensures) ∙ n .number .given .1, back w64 (s .args .day) (s .fits .day), c .decimal-unit .ensures)
 
 pub in-second-spec : {M : Type 1} → statement M
 in-second-spec =
@@ -59,7 +62,8 @@ in-second-spec =
     enum-told
     enum-told-2
     enum-known-number
-    unit-requires
+    mul-decimal-unit
+    decimal-unit-requires
     mul-ticks
     returns
     returns-2

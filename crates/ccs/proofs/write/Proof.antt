@@ -67,13 +67,16 @@ told c = sym (rw (lent c) at (c .date-digits .ensures))
 clock-digits-requires : tie.Need-clock-digits-requires
 clock-digits-requires c κs = moment-parts _ (ok (c .before .before .before .before .before)) .0
 
-unit-requires : tie.Need-unit-requires
-unit-requires c κs = search needs
+mul-decimal-unit : tie.Need-mul-decimal-unit
+mul-decimal-unit c = search needs
+
+decimal-unit-requires : tie.Need-decimal-unit-requires
+decimal-unit-requires c κs = search needs
 
 div-store : tie.Need-div-store
 div-store c =
     let d = c .before .before .before .before .before .before in
-    rw (c .unit .ensures) (grain (d .before .before .before .before .before .before .args .l .segments) (omega arith) .some)
+    rw (c .decimal-unit .ensures) (grain (d .before .before .before .before .before .before .args .l .segments) (omega arith) .some)
 
 store-requires : tie.Need-store-requires
 store-requires c κs = search needs
@@ -101,7 +104,7 @@ returns-4 c =
     let n = bcd 4 (k .date2 .given .0 .0) in
     let w = s .l .segments in
     let t = s .m .ticks in
-    let f : n ++ (bcd 3 (b .clock-digits .result) ++ bcd w (t / u .unit .result)) ≡ n ++ (clockText x ++ bcd w (partOf w t)) = ap (λ (y : List ℕ). n ++ (y ++ bcd w (t / u .unit .result))) (b .clock-digits .ensures) ∙ ap (λ (v : ℕ). n ++ (clockText x ++ bcd w (t / v))) (u .unit .ensures) in
+    let f : n ++ (bcd 3 (b .clock-digits .result) ++ bcd w (t / u .decimal-unit .result)) ≡ n ++ (clockText x ++ bcd w (partOf w t)) = ap (λ (y : List ℕ). n ++ (y ++ bcd w (t / u .decimal-unit .result))) (b .clock-digits .ensures) ∙ ap (λ (v : ℕ). n ++ (clockText x ++ bcd w (t / v))) (u .decimal-unit .ensures) in
     wrote-by
     (behind (roomed (s .out .now) (s .at)) (dated (s .l) (s .m) (few (e .before .before)) (ok e) (told d ∙ ap (λ y. given (bcd 4) (saysIndex y)) (k .date2 .given .1)) ∙ ap done (sym f)))
     (c .before .before .store .ensures)
@@ -117,7 +120,8 @@ write-spec =
     enum-known-date
     enum-known-date-2
     clock-digits-requires
-    unit-requires
+    mul-decimal-unit
+    decimal-unit-requires
     div-store
     store-requires
     returns-3

@@ -7,7 +7,6 @@ use borrow.Author.Needs.{needs}
 use lib.ListN.{length}
 use Rattle.octets.specs.Counts.{decimalAt}
 use Rattle.octets.specs.declared.Counted.the-variants.{Done}
-use Rattle.ascii.proofs.Reading.{power-low}
 use Rattle.tag.proofs.Times.{no-part, part-few, part-many, part-bad, part-out, part-lt, part-done}
 use Rattle.tag.proofs.ticks.Statement.{statement}
 use Rattle.tag.proofs.ticks.Tie as tie
@@ -33,8 +32,8 @@ enum-told-2 c = search needs
 enum-known-answer : tie.Need-enum-known-answer
 enum-known-answer c = search needs
 
-power10-requires : tie.Need-power10-requires
-power10-requires c κs = search needs
+decimal-unit-requires : tie.Need-decimal-unit-requires
+decimal-unit-requires c κs = search needs
 
 -- the text, and the answer of reading its digits
 abbrev slice : tie.After-decimal → List ℕ
@@ -43,16 +42,11 @@ slice c = c .before .before .before .before .before .args .s .now
 read : (c : tie.After-answer) → decimalAt (slice (c .before .before)) 1 (length (slice (c .before .before)) - 1) ≡ Done (c .answer .given .0 .0)
 read c = sym (c .before .before .decimal .ensures) ∙ c .answer .given .1
 
-div-unit : tie.Need-div-unit
-div-unit c =
-    let s = slice (c .before .before .before .before) in
-    power-low (length s - 1) (c .power10 .result) (omega arith) (c .power10 .ensures) .0
-
 mul-part : tie.Need-mul-part
 mul-part c =
     let a = c .before .before in
     let s = slice (a .before .before) in
-    omega (arith, part-lt s (length s - 1) (omega arith) refl (a .answer .given .0 .0) (c .power10 .result) (omega arith) (omega arith) (read a) (c .power10 .ensures))
+    omega (arith, part-lt s (length s - 1) (omega arith) refl (a .answer .given .0 .0) (c .decimal-unit .result) (omega arith) (omega arith) (read a) (c .decimal-unit .ensures))
 
 returns-4 : tie.Need-returns-4
 returns-4 c =
@@ -70,7 +64,7 @@ returns-6 : tie.Need-returns-6
 returns-6 c =
     let a = c .before .before in
     let s = slice (a .before .before) in
-    part-done s (length s - 1) (omega arith) refl (a .answer .given .0 .0) (c .power10 .result) (omega arith) (omega arith) (read a) (c .power10 .ensures)
+    part-done s (length s - 1) (omega arith) refl (a .answer .given .0 .0) (c .decimal-unit .result) (omega arith) (omega arith) (read a) (c .decimal-unit .ensures)
 
 pub ticks-spec : {M : Type 1} → statement M
 ticks-spec =
@@ -83,8 +77,7 @@ ticks-spec =
     enum-told
     enum-told-2
     enum-known-answer
-    power10-requires
-    div-unit
+    decimal-unit-requires
     mul-part
     returns-4
     returns-5
