@@ -1,7 +1,7 @@
 /* Every call of the library beside the same call of the second program (bench/second), on the same inputs: most
- * are good, and one in sixteen is refused. The two take turns, in several sweeps over all calls, since a machine
- * has slow times, and of each the best round counts. Ends with status 1 when a call takes more than 1.3 times as
- * long as the second program's. */
+ * are good, and one in sixteen is refused; of a run's pairs, one in sixteen comes twice. The two take turns, in
+ * several sweeps over all calls, since a machine has slow times, and of each the best round counts. Ends with
+ * status 1 when a call takes more than 1.3 times as long as the second program's. */
 #define _POSIX_C_SOURCE 199309L
 
 #include "honigzange.h"
@@ -16,6 +16,7 @@
 #define ROUNDS 30
 #define BOUND 1.3
 #define LISTED 16
+#define RUN 16
 #define FIRST INT64_C(441763210)
 #define END INT64_C(2145916837)
 
@@ -41,9 +42,13 @@ struct cells {
     size_t count;
     uint8_t out[HZ_ASCII_ROOM];
     int64_t list[LISTED];
+    hz_report report;
 };
 
 static struct input inputs[INPUTS];
+
+/* Pairs in a row: the rate or the run of an input begins at its own place. */
+static hz_pair pairs[INPUTS + RUN];
 
 static uint64_t state;
 
@@ -220,6 +225,22 @@ static void ascii_tag(struct input *in)
     memcpy(in->bytes, tag, in->len);
 }
 
+/* All pairs are made with the first input: some seconds apart, and one in sixteen comes twice. */
+static void run_of_pairs(struct input *in)
+{
+    hz_pair now = {FIRST, 0, FIRST, 0};
+    size_t i;
+
+    if (in != inputs)
+        return;
+    for (i = 0; i < INPUTS + RUN; i++) {
+        pairs[i] = now;
+        if (!spoiled())
+            now = (hz_pair){now.onboard_sec + 1, below(1 << 24) * HZ_GRID,
+                            now.ground_sec + 1, below(1 << 24) * HZ_GRID};
+    }
+}
+
 /* ---- calls ---- */
 
 #define CALLS(call, ...)                                                                                       \
@@ -252,6 +273,11 @@ CALLS(list_cuc, in->bytes, in->len, in->front, in->p, in->epoch, in->sec, in->ti
       to->list, in->room, &to->ticks, &to->count, &to->more)
 CALLS(list_ascii, in->bytes, in->len, in->sec, in->ticks, in->to_sec, in->to_ticks, to->list, in->room, &to->ticks,
       &to->count, &to->more)
+#define FROM pairs[in - inputs]
+#define TO pairs[in - inputs + 1]
+CALLS(rate, FROM.onboard_sec, FROM.onboard_ticks, FROM.ground_sec, FROM.ground_ticks, TO.onboard_sec, TO.onboard_ticks,
+      TO.ground_sec, TO.ground_ticks, &to->sec, &to->ticks)
+CALLS(rates, &FROM, RUN, &to->report)
 
 typedef void pass(const struct input *in, struct cells *to, size_t count);
 
@@ -271,7 +297,8 @@ static const struct call {
     CALL(read_binary, binary_read, INPUTS),      CALL(write_binary, binary_write, INPUTS),
     CALL(read_ascii, ascii_read, INPUTS),        CALL(write_ascii, ascii_write, INPUTS),
     CALL(write_wall, ascii_write, INPUTS),       CALL(list_cuc, cuc_tag, INPUTS),
-    CALL(list_ascii, ascii_tag, 256),
+    CALL(list_ascii, ascii_tag, 256),            CALL(rate, run_of_pairs, INPUTS),
+    CALL(rates, run_of_pairs, INPUTS),
 };
 
 #define COUNT (sizeof calls / sizeof *calls)

@@ -19,11 +19,11 @@
  * ANSWERS. Each function answers 0 when it is done, or one of the refusal numbers below. Results are
  * written only with the answer 0. After a refusal every byte and cell lent to the call is unchanged.
  *
- * POINTERS. Behind a pointer to lent bytes, len bytes can be read; behind one to lent room, room bytes, or room
- * elements of a list, can be written, and a list is aligned for its elements. Such a pointer may be NULL only
- * when its len or room is 0. A pointer to a result is never NULL and is aligned for its type. No two result
- * cells or lent buffers of a call overlap. A bool is true or false. No other argument is bounded: every bit
- * pattern is allowed.
+ * POINTERS. Behind a pointer to lent bytes, len bytes can be read, and behind one to a run of pairs len pairs;
+ * behind one to lent room, room bytes, or room elements of a list, can be written. A list and a run are aligned
+ * for their elements. Such a pointer may be NULL only when its len or room is 0. A pointer to a result is never
+ * NULL and is aligned for its type. No two result cells or lent buffers of a call overlap. A bool is true or
+ * false. No other argument is bounded: every bit pattern is allowed.
  *
  * TEXT. Text is bytes and a length, read and written. It is NOT terminated by a NUL: a written text ends after
  * as many bytes as the call says, and a NUL that is read is a character like any other, and refused.
@@ -44,6 +44,9 @@ extern "C" {
 
 /* Ticks of a second: 2^-24 s is 244140625 ticks, and a picosecond is 4096. */
 #define HZ_TICKS UINT64_C(4096000000000000)
+
+/* Ticks of 2^-24 s: a record is on the grid of rates where its ticks are a multiple of them. */
+#define HZ_GRID UINT64_C(244140625)
 
 /* The first day number of the calendar: 0001-01-01. */
 #define HZ_FIRST_DAY (-INT64_C(714779))
@@ -73,9 +76,11 @@ extern "C" {
 #define HZ_FIELD 4          /* a field, BCD digit, character or length breaks its rule */
 #define HZ_UNCOVERED 5      /* UTC day outside the table of leap seconds */
 #define HZ_NO_SUCH_SECOND 6 /* a second 60 (or millisecond from 86400000) on a day without one */
-#define HZ_RANGE 7          /* invalid record, span or epoch; sum or day number out of range; target can't hold it */
+#define HZ_RANGE 7          /* invalid record, span or epoch; sum, day or elapsed out of range; target can't hold it */
 #define HZ_ROOM 8           /* output too short */
 #define HZ_WINDOW 9         /* window's end before its start */
+#define HZ_NOT_ELAPSED 10   /* ground elapsed zero or negative */
+#define HZ_OFF_GRID 11      /* a record off the grid of 2^-24 s */
 
 /*
  * A short text for an answer: "done" for 0, and for a refusal number what it means. It is a constant string,
@@ -95,6 +100,8 @@ extern "C" {
      : (number) == HZ_RANGE          ? "out of range"                              \
      : (number) == HZ_ROOM           ? "output too short"                          \
      : (number) == HZ_WINDOW         ? "window's end before its start"             \
+     : (number) == HZ_NOT_ELAPSED    ? "ground elapsed time is not positive"       \
+     : (number) == HZ_OFF_GRID       ? "a record off the grid of 2^-24 s"          \
                                      : "no refusal number")
 
 /*
@@ -501,6 +508,91 @@ uint8_t hz_list_cuc(const uint8_t *tag, size_t len, bool front, uint8_t p, int64
 uint8_t hz_list_ascii(const uint8_t *tag, size_t len,
                       int64_t from_sec, uint64_t from_ticks, int64_t to_sec, uint64_t to_ticks,
                       int64_t *list, size_t room, uint64_t *ticks, size_t *count, bool *more);
+
+/*
+ * DRIFT. A pair is an onboard record, and the ground record that it came with. From one pair to another the
+ * elapsed time, onboard and on the ground, is the second record less the first, and the rate is onboard elapsed
+ * over ground elapsed: 1/1 for an onboard clock that runs as the ground's does, less for one that loses. A pair
+ * of a run and the next one are a neighbouring two.
+ *
+ * A rate is exact, a signed numerator over a positive denominator in lowest terms, and 0 is 0/1. It is never
+ * rounded: a plot that wants a floating-point number divides the two itself, once it has seen that there is a
+ * rate, which is where hz_rate answers 0, or where den of an extreme is not 0.
+ *
+ * Rates are of records on the grid of 2^-24 s, whose ticks are multiples of HZ_GRID, and of elapsed times less
+ * than 2^32 s in size. The size is the exact absolute value. All times that CUC can show are on the grid; CDS,
+ * CCS and ASCII show others too, which are refused and never taken down to the grid.
+ *
+ *     hz_pair run[3] = {{0, 0, 0, 0}, {1, 0, 2, 0}, {2, HZ_TICKS / 2, 3, 0}};
+ *     hz_report report;
+ *     int64_t num;
+ *     uint64_t den;
+ *     uint8_t refusal = hz_rate(0, 0, 0, 0, 1, 0, 2, 0, &num, &den);
+ *     if (refusal == 0)
+ *         refusal = hz_rates(run, 3, &report);
+ *
+ * Now refusal is 0, num is 1 and den 2; report has 2 rates, the smallest 1/2 at place 0 and the largest 3/2 at
+ * place 1.
+ */
+
+/* A pair of records. */
+typedef struct hz_pair {
+    int64_t onboard_sec;
+    uint64_t onboard_ticks;
+    int64_t ground_sec;
+    uint64_t ground_ticks;
+} hz_pair;
+
+/* A rate of a run, and its first place among all neighbouring twos, from 0. A denominator 0 is no rate. */
+typedef struct hz_extreme {
+    int64_t num;
+    uint64_t den;
+    uint64_t place;
+} hz_extreme;
+
+/* What the neighbouring twos of a run come to: each is counted once. */
+typedef struct hz_report {
+    uint64_t rates;       /* those that have a rate */
+    uint64_t range;       /* those that hz_rate refuses with HZ_RANGE, for either cause */
+    uint64_t not_elapsed; /* .. with HZ_NOT_ELAPSED */
+    uint64_t off_grid;    /* .. with HZ_OFF_GRID */
+    hz_extreme smallest;
+    hz_extreme largest;
+} hz_report;
+
+/*
+ * The rate from one pair to another.
+ *
+ * onboard_sec, onboard_ticks, ground_sec, ground_ticks: the first pair.
+ * then_onboard_sec, then_onboard_ticks, then_ground_sec, then_ground_ticks: the second pair.
+ * num, den: the rate is written here, in lowest terms. den is positive.
+ *
+ * 0               done.
+ *
+ * Refused with the first of these that holds:
+ * HZ_RANGE        one of the four records is invalid.
+ * HZ_OFF_GRID     one of the four records is off the grid.
+ * HZ_RANGE        onboard or ground elapsed is 2^32 s or more in size.
+ * HZ_NOT_ELAPSED  ground elapsed is zero or negative.
+ */
+uint8_t hz_rate(int64_t onboard_sec, uint64_t onboard_ticks, int64_t ground_sec, uint64_t ground_ticks,
+                int64_t then_onboard_sec, uint64_t then_onboard_ticks,
+                int64_t then_ground_sec, uint64_t then_ground_ticks,
+                int64_t *num, uint64_t *den);
+
+/*
+ * The rates between each pair of a run and the next: how many there are, how many are refused with which number,
+ * and the smallest and the largest. No neighbouring two is skipped: the four counts add up to their number, which
+ * is len - 1, or 0 for an empty run. Comparison is exact. The run is read once.
+ *
+ * run, len: the pairs, in their order. NULL only when len is 0. A run of no pair or of one has no twos.
+ * report: the report is written here, all of it. Where there is no rate, num, den and place of the smallest and
+ *         of the largest are 0. A place counts all neighbouring twos before it, refused ones too: the rate at
+ *         place i is that from run[i] to run[i + 1].
+ *
+ * 0  done. A run is never refused.
+ */
+uint8_t hz_rates(const hz_pair *run, size_t len, hz_report *report);
 
 #ifdef __cplusplus
 }

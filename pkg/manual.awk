@@ -1,7 +1,8 @@
 # Makes the manual page of the library from its header, so that each call is described once:
 #     awk -v version=VERSION -f pkg/manual.awk include/honigzange.h >honigzange.3
 # Of a comment's lines, "name: text" and "HZ_NAME  text" are items of a list, and lines set in by two blanks
-# are a list or a table, by four code. The prototype that follows a comment is its heading.
+# are a list or a table, by four code. The prototype that follows a comment is its heading; a struct stands after its
+# comment.
 
 function plain(text) {
     gsub(/\\/, "\\e", text)
@@ -88,6 +89,16 @@ comment { lines[++count] = substr($0, 4); next }
     item($2 " " value, remark)
     next
 }
+/^typedef struct / || type != "" {
+    type = type (type == "" ? "" : "\n") $0
+    if ($0 !~ /^}/)
+        next
+    synopsis = synopsis "\n" plain(type) "\n"
+    gap = "\n"
+    put(".PP\n" plain(remark) "\n.PP\n.nf\n" plain(type) "\n.fi")
+    type = ""
+    next
+}
 /^uint8_t hz_/ || prototype != "" {
     prototype = prototype (prototype == "" ? "" : "\n") $0
     if ($0 !~ /;$/)
@@ -95,7 +106,8 @@ comment { lines[++count] = substr($0, 4); next }
     name = prototype
     sub(/^uint8_t /, "", name)
     sub(/\(.*/, "", name)
-    synopsis = synopsis plain(prototype) "\n"
+    synopsis = synopsis gap plain(prototype) "\n"
+    gap = ""
     if (names == "")
         put(".SH RECORDS, DAYS AND SECONDS")
     names = names ", " name

@@ -5,7 +5,7 @@
 
 use second::ascii::{Setting, Text, DEFAULT};
 use second::listing::Listing;
-use second::{ascii, ascii_tag, binary, calendar, cuc_tag, leap, scale};
+use second::{ascii, ascii_tag, binary, calendar, cuc_tag, drift, leap, scale};
 use std::slice;
 
 /// Hands a call's values on to the cells, or its refusal number to the caller.
@@ -243,4 +243,77 @@ fn lent(listing: &Listing, list: &mut [i64]) -> (u64, usize, bool) {
     let count = listing.secs.len();
     list[..count].copy_from_slice(&listing.secs);
     (listing.ticks, count, listing.more)
+}
+
+#[no_mangle]
+pub extern "C" fn second_rate(
+    onboard_sec: i64,
+    onboard_ticks: u64,
+    ground_sec: i64,
+    ground_ticks: u64,
+    then_onboard_sec: i64,
+    then_onboard_ticks: u64,
+    then_ground_sec: i64,
+    then_ground_ticks: u64,
+    num: &mut i64,
+    den: &mut u64,
+) -> u8 {
+    let first = [(onboard_sec, onboard_ticks), (ground_sec, ground_ticks)];
+    let second = [
+        (then_onboard_sec, then_onboard_ticks),
+        (then_ground_sec, then_ground_ticks),
+    ];
+    done(drift::rate(first, second), |rate| (*num, *den) = rate)
+}
+
+/// A pair, an extreme and a report as include/honigzange.h has them.
+#[repr(C)]
+pub struct Pair {
+    onboard_sec: i64,
+    onboard_ticks: u64,
+    ground_sec: i64,
+    ground_ticks: u64,
+}
+
+#[repr(C)]
+pub struct Extreme {
+    num: i64,
+    den: u64,
+    place: u64,
+}
+
+#[repr(C)]
+pub struct Report {
+    rates: u64,
+    range: u64,
+    not_elapsed: u64,
+    off_grid: u64,
+    smallest: Extreme,
+    largest: Extreme,
+}
+
+#[no_mangle]
+pub unsafe extern "C" fn second_rates(run: *const Pair, len: usize, report: &mut Report) -> u8 {
+    let plain = |pair: &Pair| {
+        [
+            (pair.onboard_sec, pair.onboard_ticks),
+            (pair.ground_sec, pair.ground_ticks),
+        ]
+    };
+    let run = slice::from_raw_parts(run, len).iter().map(plain);
+    let told = drift::report(&run.collect::<Vec<_>>());
+    let extreme = |told: Option<(drift::Fraction, usize)>| {
+        let ((num, den), place) = told.unwrap_or(((0, 0), 0));
+        let place = place as u64;
+        Extreme { num, den, place }
+    };
+    *report = Report {
+        rates: told.rates as u64,
+        range: told.range as u64,
+        not_elapsed: told.not_elapsed as u64,
+        off_grid: told.off_grid as u64,
+        smallest: extreme(told.smallest),
+        largest: extreme(told.largest),
+    };
+    0
 }

@@ -1,7 +1,7 @@
 /*
  * A small display: it shows what a link delivers, code by code, and what a code that can't be shown is refused
  * for. Of a counter that has wrapped, and of a tag that was shortened, it shows every moment that they can mean
- * around the time at which they came. What it prints is display.out.
+ * around the time at which they came. Of an onboard clock it shows the drift. What it prints is display.out.
  */
 #include <honigzange.h>
 
@@ -60,6 +60,21 @@ static const struct frame minute = ASCII("tag :30", ":30");
 static const struct frame nothing = ASCII("tag -02-29", "-02-29");
 static const struct frame damaged = ASCII("tag -02-30", "-02-30");
 
+/* What an onboard clock said, in CUC with three fine octets, and the ground's time at which that came. */
+static const struct contact {
+    struct frame onboard, ground;
+} contacts[] = {
+    {BINARY("", "\x1F\x6E\xFA\xA5\x22\x00\x00\x00"), ASCII("", "2016-12-31T23:59:58Z")},
+    {BINARY("", "\x1F\x6E\xFA\xA5\x24\x00\x00\x02"), ASCII("", "2016-12-31T23:59:60Z")},
+    {BINARY("", "\x1F\x6E\xFA\xA5\x24\x00\x00\x02"), ASCII("", "2016-12-31T23:59:60Z")},
+    {BINARY("", "\x1F\x6E\xFA\xA5\x26\x00\x00\x00"), ASCII("", "2017-01-01T00:00:01Z")},
+    {BINARY("", "\x1F\x6E\xFA\xA5\x27\x00\x00\x00"), ASCII("", "2017-01-01T00:00:02.001Z")},
+    {BINARY("", "\x1F\x6E\xFA\xA5\x28\x00\x00\x00"), ASCII("", "2017-01-01T00:00:03Z")},
+    {BINARY("", "\x1F\x6E\xFA\xA5\x2A\x00\x00\x00"), ASCII("", "2017-01-01T00:00:05Z")},
+};
+
+#define CONTACTS (sizeof contacts / sizeof *contacts)
+
 static void show_refusal(uint8_t refusal)
 {
     printf("refused %d: %s\n", refusal, HZ_MEANING(refusal));
@@ -79,28 +94,34 @@ static void show_moment(int64_t sec, uint64_t ticks)
     }
 }
 
-/* Each code of a frame. Where a refused code ends nobody knows, so what follows it is dropped. */
-static void show_frame(const struct frame *frame)
+/* The moment of the first code of a frame, and the frame after it. */
+static uint8_t read_code(struct frame *frame, int64_t *sec, uint64_t *ticks)
 {
     const uint8_t *bytes = (const uint8_t *)frame->bytes;
-    size_t len = frame->len;
+    size_t used = frame->len;
+    uint8_t refusal = frame->ascii ? hz_read_ascii(bytes, frame->len, sec, ticks)
+                                   : hz_read_binary(bytes, frame->len, true, 0, NO_EPOCH, sec, ticks, &used);
 
+    frame->bytes += used;
+    frame->len -= used;
+    return refusal;
+}
+
+/* Each code of a frame. Where a refused code ends nobody knows, so what follows it is dropped. */
+static void show_frame(struct frame frame)
+{
     do {
         int64_t sec;
         uint64_t ticks;
-        size_t used = len;
-        uint8_t refusal = frame->ascii ? hz_read_ascii(bytes, len, &sec, &ticks)
-                                       : hz_read_binary(bytes, len, true, 0, NO_EPOCH, &sec, &ticks, &used);
+        uint8_t refusal = read_code(&frame, &sec, &ticks);
 
-        printf("  %-22s ", frame->what);
+        printf("  %-22s ", frame.what);
         if (refusal != 0) {
             show_refusal(refusal);
             return;
         }
         show_moment(sec, ticks);
-        bytes += used;
-        len -= used;
-    } while (len > 0);
+    } while (frame.len > 0);
 }
 
 /* The first moments that a tag names from one moment on and before a second. */
@@ -163,6 +184,57 @@ static void show_tag(const struct frame *tag, int64_t about, int64_t reach)
     } while (page.more);
 }
 
+static void show_extreme(const char *what, hz_extreme extreme)
+{
+    if (extreme.den == 0) {
+        printf("  %s: no rate\n", what);
+    } else {
+        printf("  %s: %" PRId64 "/%" PRIu64 " at %" PRIu64 "\n", what, extreme.num, extreme.den, extreme.place);
+    }
+}
+
+/* The rate from each contact to the next, and what they come to. */
+static void show_drift(void)
+{
+    hz_pair run[CONTACTS];
+    hz_report report;
+    size_t i;
+
+    for (i = 0; i < CONTACTS; i++) {
+        struct contact contact = contacts[i];
+        uint8_t refusal = read_code(&contact.onboard, &run[i].onboard_sec, &run[i].onboard_ticks);
+
+        if (refusal == 0) {
+            refusal = read_code(&contact.ground, &run[i].ground_sec, &run[i].ground_ticks);
+        }
+        if (refusal != 0) {
+            printf("  ");
+            show_refusal(refusal);
+            return;
+        }
+    }
+    for (i = 0; i + 1 < CONTACTS; i++) {
+        const hz_pair a = run[i], b = run[i + 1];
+        int64_t num;
+        uint64_t den;
+        uint8_t refusal =
+            hz_rate(a.onboard_sec, a.onboard_ticks, a.ground_sec, a.ground_ticks, b.onboard_sec, b.onboard_ticks,
+                    b.ground_sec, b.ground_ticks, &num, &den);
+
+        printf("  %22zu ", i);
+        if (refusal != 0) {
+            show_refusal(refusal);
+        } else {
+            printf("%" PRId64 "/%" PRIu64 "\n", num, den);
+        }
+    }
+    hz_rates(run, CONTACTS, &report);
+    printf("  rates: %" PRIu64 ", refused 7: %" PRIu64 ", 10: %" PRIu64 ", 11: %" PRIu64 "\n", report.rates,
+           report.range, report.not_elapsed, report.off_grid);
+    show_extreme("smallest", report.smallest);
+    show_extreme("largest", report.largest);
+}
+
 int main(void)
 {
     /* 2016-12-31T23:50:00 UTC, ten minutes before a leap second. */
@@ -172,7 +244,7 @@ int main(void)
 
     printf("link\n");
     for (i = 0; i < sizeof frames / sizeof *frames; i++) {
-        show_frame(&frames[i]);
+        show_frame(frames[i]);
     }
     show_tag(&counter, about, 2 * DAY);
     show_tag(&leaps, about, 1000 * DAY);
@@ -180,8 +252,10 @@ int main(void)
     show_tag(&nothing, about, DAY);
     show_tag(&damaged, about, DAY);
     show_tag(&counter, about, -DAY);
+    printf("drift\n");
+    show_drift();
     printf("refusals\n");
-    for (number = HZ_SHORT; number <= HZ_WINDOW; number++) {
+    for (number = HZ_SHORT; number <= HZ_OFF_GRID; number++) {
         printf("  %d %s\n", number, HZ_MEANING(number));
     }
     return 0;

@@ -1,4 +1,4 @@
-/* Document 01's known times that are run: each answer on a line, to be the lines of known.out. */
+/* Known times and rates of documents 01 and 02 that are run: each answer on a line, to be the lines of known.out. */
 #include "honigzange.h"
 
 #include <inttypes.h>
@@ -9,6 +9,9 @@
 #define START INT64_C(441763210)
 #define END INT64_C(2145916837)
 #define ROOM 32
+
+/* 2^32 s, which no elapsed time may reach in size. */
+#define LIMIT INT64_C(4294967296)
 
 static int64_t list[ROOM];
 
@@ -57,8 +60,40 @@ static size_t print_count(const char *tag)
     return count;
 }
 
+/* The rate from nothing elapsed to so much onboard and on the ground. */
+static void print_rate(int64_t onboard, uint64_t onboard_ticks, int64_t ground, uint64_t ground_ticks)
+{
+    int64_t num;
+    uint64_t den;
+    uint8_t refusal = hz_rate(0, 0, 0, 0, onboard, onboard_ticks, ground, ground_ticks, &num, &den);
+
+    if (refusal != 0) {
+        printf("refused %d\n", refusal);
+    } else {
+        printf("%" PRId64 "/%" PRIu64 "\n", num, den);
+    }
+}
+
+static void print_extreme(const char *what, hz_extreme extreme)
+{
+    printf(", %s %" PRId64 "/%" PRIu64 " at %" PRIu64, what, extreme.num, extreme.den, extreme.place);
+}
+
+static void print_report(const hz_pair *run, size_t len)
+{
+    hz_report report;
+    uint8_t refusal = hz_rates(run, len, &report);
+
+    printf("%d: 7: %" PRIu64 ", 10: %" PRIu64 ", 11: %" PRIu64 ", %" PRIu64 " rates", refusal, report.range,
+           report.not_elapsed, report.off_grid, report.rates);
+    print_extreme("smallest", report.smallest);
+    print_extreme("largest", report.largest);
+    printf("\n");
+}
+
 int main(void)
 {
+    static const hz_pair run[] = {{0, 0, 0, 0}, {1, 0, 2, 0}, {1, 0, 2, 0}, {2, 0, 4, 0}, {5, 0, 4, 0}, {4, 0, 6, 0}};
     size_t count, i;
 
     count = print_count("::60");
@@ -76,5 +111,16 @@ int main(void)
     }
     print_answer("2016-12-31T23:59:60");
     print_answer("2015-12-31T23:59:60");
+    /* invalid before off the grid; too long before nothing elapsed; and the size is the exact absolute value */
+    print_rate(0, HZ_TICKS, 1, 1);
+    print_rate(LIMIT, 0, 0, 0);
+    print_rate(-LIMIT, HZ_GRID, 1, 0);
+    print_rate(-LIMIT, 0, 1, 0);
+    print_rate(1, 0, -LIMIT, 0);
+    print_rate(1, 0, -LIMIT, HZ_GRID);
+    print_rate(0, 1, 1, 0);
+    print_rate(0, 0, 1, 0);
+    print_report(run, 6);
+    print_report(run, 1);
     return 0;
 }

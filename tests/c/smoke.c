@@ -24,7 +24,7 @@ static void meanings(void)
 
     expect("0 is done", strcmp(HZ_MEANING(0), "done") == 0);
     expect("6 has a text", strcmp(HZ_MEANING(HZ_NO_SUCH_SECOND), "no leap second on this day") == 0);
-    for (number = 0; number <= HZ_WINDOW + 1; number++) {
+    for (number = 0; number <= HZ_OFF_GRID + 1; number++) {
         for (other = 0; other < number; other++) {
             expect("each number has a text of its own", strcmp(HZ_MEANING(number), HZ_MEANING(other)) != 0);
         }
@@ -406,6 +406,45 @@ static void lists_of_texts(void)
                count == 0 && !more);
 }
 
+static void rates(void)
+{
+    int64_t num = 17;
+    uint64_t den = 18;
+
+    expect("the grid has 2^24 steps in a second", HZ_GRID << 24 == HZ_TICKS);
+    expect("an invalid record is refused first",
+           hz_rate(0, 0, 0, 1, 1, HZ_TICKS, 1, 0, &num, &den) == HZ_RANGE);
+    expect("then one off the grid", hz_rate(0, 0, 0, 1, LAST, 0, 0, 1, &num, &den) == HZ_OFF_GRID);
+    expect("then 2^42 s, almost", hz_rate(FIRST, 0, 0, 0, LAST, 0, 0, 0, &num, &den) == HZ_RANGE);
+    expect("then ground elapsed zero", hz_rate(0, 0, 5, 0, 1, 0, 5, 0, &num, &den) == HZ_NOT_ELAPSED);
+    expect("or negative", hz_rate(0, 0, 5, 0, 1, 0, 4, 0, &num, &den) == HZ_NOT_ELAPSED);
+    expect("a refusal writes nothing", num == 17 && den == 18);
+    expect("-3/2", hz_rate(10, 0, 1, 0, 4, 0, 5, 0, &num, &den) == 0 && num == -3 && den == 2);
+    expect("0/1", hz_rate(10, 0, 1, 0, 10, 0, 5, 0, &num, &den) == 0 && num == 0 && den == 1);
+    expect("one step of the grid over the longest time",
+           hz_rate(0, 0, 0, 0, 0, HZ_GRID, (INT64_C(1) << 32) - 1, HZ_TICKS - HZ_GRID, &num, &den) == 0 && num == 1 &&
+               den == (UINT64_C(1) << 56) - 1);
+}
+
+static void runs(void)
+{
+    static const hz_pair run[] = {{0, 0, 0, 0}, {2, 0, 2, 0}, {1, 0, 3, 0}, {0, 0, 4, 0}, {3, 0, 7, 1}, {3, 0, 9, 0}};
+    hz_report report, none;
+
+    expect("the structs have no gaps",
+           sizeof(hz_pair) == 32 && sizeof(hz_extreme) == 24 && sizeof(hz_report) == 80);
+    memset(&none, 0, sizeof none);
+    memset(&report, 0xEE, sizeof report);
+    expect("no pair at NULL", hz_rates(NULL, 0, &report) == 0 && memcmp(&report, &none, sizeof report) == 0);
+    memset(&report, 0xEE, sizeof report);
+    expect("a run is done", hz_rates(run, sizeof run / sizeof *run, &report) == 0);
+    expect("each two is counted",
+           report.rates == 3 && report.range == 0 && report.not_elapsed == 0 && report.off_grid == 2);
+    expect("the first of two equal ones is the smallest",
+           report.smallest.num == -1 && report.smallest.den == 1 && report.smallest.place == 1);
+    expect("the largest", report.largest.num == 1 && report.largest.den == 1 && report.largest.place == 0);
+}
+
 int main(void)
 {
     meanings();
@@ -422,6 +461,8 @@ int main(void)
     walls();
     lists_of_counters();
     lists_of_texts();
+    rates();
+    runs();
     if (!wrong) {
         printf("smoke: all as known\n");
     }

@@ -71,6 +71,8 @@ mod binary;
 #[forbid(unsafe_code)]
 mod calendar;
 #[forbid(unsafe_code)]
+mod drift;
+#[forbid(unsafe_code)]
 mod leap;
 #[allow(unsafe_code)]
 pub mod raw;
@@ -88,6 +90,7 @@ pub use binary::{read_binary, write_binary, BinarySetting, Preamble, BINARY_ROOM
 pub use calendar::{
     date_of_day, day_of_date, day_of_ordinal, ordinal_of_day, Date, Ordinal, FIRST_DAY, LAST_DAY,
 };
+pub use drift::{rate, rates, Extreme, Pair, Rate, Report};
 pub use leap::{second_of_utc, utc_of_second, Utc, COVER_END, COVER_START};
 pub use refusal::Refusal;
 pub use scale::{difference, shift, Record, Span};

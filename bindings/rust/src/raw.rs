@@ -1,9 +1,13 @@
 //! The C interface as it is, made safe: each call answers 0 or a refusal number, writes its result cells
 //! only with the answer 0, and otherwise leaves them as they were.
 //!
-//! The calls at the crate's root say the same with [`Result`].
+//! The calls at the crate's root say the same with [`Result`], but `rates`, which is never refused.
+
+use crate::drift::Pair;
 
 mod c {
+    use super::{Pair, Report};
+
     extern "C" {
         pub fn hz_difference(
             a_sec: i64,
@@ -99,7 +103,69 @@ mod c {
             count: *mut usize,
             more: *mut bool,
         ) -> u8;
+        pub fn hz_rate(
+            onboard_sec: i64,
+            onboard_ticks: u64,
+            ground_sec: i64,
+            ground_ticks: u64,
+            then_onboard_sec: i64,
+            then_onboard_ticks: u64,
+            then_ground_sec: i64,
+            then_ground_ticks: u64,
+            num: *mut i64,
+            den: *mut u64,
+        ) -> u8;
+        pub fn hz_rates(run: *const Pair, len: usize, report: *mut Report) -> u8;
     }
+}
+
+/// A rate of a run and its place, as it stands in a [`Report`]. A denominator 0 is no rate.
+#[derive(Clone, Copy, PartialEq, Eq, Debug, Hash)]
+#[repr(C)]
+pub struct Extreme {
+    /// The numerator.
+    pub num: i64,
+    /// The denominator.
+    pub den: u64,
+    /// The first place among all neighbouring twos, from 0.
+    pub place: u64,
+}
+
+/// The report on a run of pairs as the call writes it.
+#[derive(Clone, Copy, PartialEq, Eq, Debug, Hash)]
+#[repr(C)]
+pub struct Report {
+    /// Twos that have a rate.
+    pub rates: u64,
+    /// Twos refused with 7.
+    pub range: u64,
+    /// Twos refused with 10.
+    pub not_elapsed: u64,
+    /// Twos refused with 11.
+    pub off_grid: u64,
+    /// The smallest rate.
+    pub smallest: Extreme,
+    /// The largest rate.
+    pub largest: Extreme,
+}
+
+impl Report {
+    /// The report on a run without twos.
+    pub const NONE: Report = {
+        let nothing = Extreme {
+            num: 0,
+            den: 0,
+            place: 0,
+        };
+        Report {
+            rates: 0,
+            range: 0,
+            not_elapsed: 0,
+            off_grid: 0,
+            smallest: nothing,
+            largest: nothing,
+        }
+    };
 }
 
 /// The span a - b.
@@ -279,4 +345,43 @@ pub fn list_ascii(
             bytes, len, from_sec, from_ticks, to_sec, to_ticks, start, room, ticks, count, more,
         )
     }
+}
+
+/// The rate from one pair to another.
+#[allow(clippy::too_many_arguments)]
+pub fn rate(
+    onboard_sec: i64,
+    onboard_ticks: u64,
+    ground_sec: i64,
+    ground_ticks: u64,
+    then_onboard_sec: i64,
+    then_onboard_ticks: u64,
+    then_ground_sec: i64,
+    then_ground_ticks: u64,
+    num: &mut i64,
+    den: &mut u64,
+) -> u8 {
+    // SAFETY: numbers may hold anything, and two exclusive references are two cells apart.
+    unsafe {
+        c::hz_rate(
+            onboard_sec,
+            onboard_ticks,
+            ground_sec,
+            ground_ticks,
+            then_onboard_sec,
+            then_onboard_ticks,
+            then_ground_sec,
+            then_ground_ticks,
+            num,
+            den,
+        )
+    }
+}
+
+/// The report on a run of pairs.
+pub fn rates(run: &[Pair], report: &mut Report) -> u8 {
+    let (start, len) = (run.as_ptr(), run.len());
+    // SAFETY: numbers may hold anything, the pairs are as many as said, an exclusive reference is a report apart
+    // from them, and both are laid out as the header's structs.
+    unsafe { c::hz_rates(start, len, report) }
 }

@@ -1,4 +1,4 @@
-//! The nine refusals, and how a number of the C interface becomes one.
+//! The refusals, and how a number of the C interface becomes one.
 
 use core::error::Error;
 use core::fmt;
@@ -26,16 +26,20 @@ pub enum Refusal {
     Uncovered,
     /// 6: a second 60 (or millisecond from 86,400,000) on a day without one.
     NoSuchSecond,
-    /// 7: invalid record, span or epoch; sum or day number out of range; target can't hold it.
+    /// 7: invalid record, span or epoch; sum, day number or elapsed time out of range; target can't hold it.
     Range,
     /// 8: output too short.
     Room,
     /// 9: window's end before its start.
     Window,
+    /// 10: ground elapsed zero or negative.
+    NotElapsed,
+    /// 11: a record off the grid of 2^-24 s.
+    OffGrid,
 }
 
 impl Refusal {
-    /// The refusal number, from 1 to 9.
+    /// The refusal number, from 1 on.
     pub const fn number(self) -> u8 {
         match self {
             Refusal::Short => 1,
@@ -47,6 +51,8 @@ impl Refusal {
             Refusal::Range => 7,
             Refusal::Room => 8,
             Refusal::Window => 9,
+            Refusal::NotElapsed => 10,
+            Refusal::OffGrid => 11,
         }
     }
 
@@ -62,6 +68,8 @@ impl Refusal {
             7 => Refusal::Range,
             8 => Refusal::Room,
             9 => Refusal::Window,
+            10 => Refusal::NotElapsed,
+            11 => Refusal::OffGrid,
             _ => return None,
         })
     }
@@ -84,6 +92,8 @@ impl Refusal {
             Refusal::Range => "out of range",
             Refusal::Room => "output too short",
             Refusal::Window => "window's end before its start",
+            Refusal::NotElapsed => "ground elapsed time is not positive",
+            Refusal::OffGrid => "a record off the grid of 2^-24 s",
         }
     }
 }

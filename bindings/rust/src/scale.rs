@@ -16,7 +16,9 @@ use crate::refusal::{answer, Refusal};
 /// assert!(Record { sec: -1, ticks: Record::TICKS - 1 } < half);
 /// assert!(half < Record { sec: 1, ticks: 0 });
 /// ```
+// Laid out as in hz_pair: `raw::rates` lends runs of pairs.
 #[derive(Clone, Copy, PartialEq, Eq, PartialOrd, Ord, Debug, Hash)]
+#[repr(C)]
 pub struct Record {
     /// Whole TAI seconds from 1958-01-01T00:00:00 TAI.
     pub sec: i64,
@@ -27,6 +29,9 @@ pub struct Record {
 impl Record {
     /// The ticks of a second. 2^-24 s is 244,140,625 ticks, and a picosecond is 4,096.
     pub const TICKS: u64 = 4_096_000_000_000_000;
+
+    /// The ticks of 2^-24 s. A record is on the grid of rates where its ticks are a multiple of them.
+    pub const GRID: u64 = 244_140_625;
 }
 
 /// A signed distance of two moments: seconds taken downward, and ticks that are never negative.

@@ -3,10 +3,11 @@
 use honigzange::Refusal;
 
 #[test]
-fn each_number_from_1_to_9_is_one_refusal() {
+fn each_number_is_one_refusal() {
     for number in 0..=u8::MAX {
         let refusal = Refusal::from_number(number);
-        assert_eq!(refusal.is_some(), (1..=9).contains(&number));
+        let last = Refusal::OffGrid.number();
+        assert_eq!(refusal.is_some(), (1..=last).contains(&number));
         assert!(refusal.map_or(true, |refusal| refusal.number() == number));
     }
 }

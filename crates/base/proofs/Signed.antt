@@ -12,7 +12,7 @@ use mir.Syntax.{Width}
 use mir.Val.{SFits, Fits, toZ, ofZ, bits, hbits}
 use mir.ValLaws.{toZ-ofZ}
 use borrow.Author.Tests.{lt-ltb, le-ltb, le-leb, lt-leb, ltb-true, ltb-false, leb-true, leb-false}
-use Rattle.base.specs.Parts.{plus, minus, within, at, loweredBy, floor, rest}
+use Rattle.base.specs.Parts.{plus, minus, within, at, loweredBy, bitsOf, floor, rest}
 use Rattle.base.proofs.Bools.{and-left, and-right, and-false, by-two}
 use Rattle.base.specs.Seats.{seatOf}
 use Rattle.base.specs.declared.Seat.the-variants.{In, Out}
@@ -171,6 +171,15 @@ at-same B n y z e f = same y z (omega arith)
 
 pub at-once : (B m n : ℕ) (z : ℤ) → at B m z → at B n z → m ≡ n
 at-once B m n z e f = omega arith
+
+-- raised by 2^63, then by as much again or lowered, they are the bits without a sign
+pub bits-below : (n : ℕ) (z : ℤ) → at (2 ^ 63) n z → n < 2 ^ 63 → n + 2 ^ 63 ≡ bitsOf z
+bits-below n (pos m) e h = absurd (omega arith)
+bits-below n (negsuc m) e h = omega arith
+
+pub bits-above : (n : ℕ) (z : ℤ) → at (2 ^ 63) n z → 2 ^ 63 ≤ n → n - 2 ^ 63 ≡ bitsOf z
+bits-above n (pos m) e h = omega arith
+bits-above n (negsuc m) e h = absurd (omega arith)
 
 -- at another bias
 pub at-more : (B K n : ℕ) (z : ℤ) → at B n z → at (B + K) (n + K) z

@@ -1,4 +1,4 @@
--- What a call answers on paper: a value, or the number of a refusal of document 01. A rule with its order of refusals is a ladder: each rung is a test, or a part that may itself be refused.
+-- What a call answers on paper: a value, or the number of a refusal of documents 01 and 02. A rule with its order of refusals is a ladder: each rung is a test, or a part that may itself be refused.
 use mathlib.Core.Bool.{Bool, true, false}
 use Prim.Native.Nat.{ℕ}
 

@@ -1,7 +1,7 @@
--- The refusals of document 01, "Refusal numbers": the one place that gives each its number.
+-- The refusals of document 01, "Refusal numbers", and those that document 02 adds to them: the one place that gives each its number.
 use Prim.Native.Nat.{ℕ}
 use Rattle.base.specs.declared.Refusal.{Refusal}
-use Rattle.base.specs.declared.Refusal.the-variants.{Short, Identification, Unsupported, Field, Uncovered, NoSuchSecond, Range, Room, Window}
+use Rattle.base.specs.declared.Refusal.the-variants.{Short, Identification, Unsupported, Field, Uncovered, NoSuchSecond, Range, Room, Window, NotElapsed, OffGrid}
 
 abbrev pub number : Refusal → ℕ
 -- binary bytes run out, or ASCII is empty
@@ -22,3 +22,7 @@ number Range = 7
 number Room = 8
 -- the window's end before its start
 number Window = 9
+-- document 02, request 1: ground elapsed zero or negative
+number NotElapsed = 10
+-- document 02, request 1: a record off the 2^-24 s grid
+number OffGrid = 11

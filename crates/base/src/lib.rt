@@ -1,11 +1,11 @@
-// What every crate stands on: the refusals of document 01, and signed numbers carried to unsigned ones and back.
+// What every crate stands on: the refusals of documents 01 and 02, and signed numbers carried to unsigned ones and back.
 ghost use mathlib.Core.Path.{_≡_};
 ghost use Prim.Native.Nat.{_^_};
 ghost use Rattle.base.specs.Refusals.{number};
-ghost use Rattle.base.specs.Parts.{at, within};
+ghost use Rattle.base.specs.Parts.{at, within, bitsOf};
 ghost use Rattle.base.specs.Seats.{seatOf};
 
-// Why a call is refused, in the order of document 01's numbers 1 to 9.
+// Why a call is refused, in the order of the numbers: 1 to 9 of document 01, 10 and 11 of document 02.
 pub enum Refusal {
     Short,
     Identification,
@@ -16,6 +16,8 @@ pub enum Refusal {
     Range,
     Room,
     Window,
+    NotElapsed,
+    OffGrid,
 }
 
 impl Refusal {
@@ -33,6 +35,8 @@ impl Refusal {
             Refusal::Range => 7,
             Refusal::Room => 8,
             Refusal::Window => 9,
+            Refusal::NotElapsed => 10,
+            Refusal::OffGrid => 11,
         }
     }
 }
@@ -61,6 +65,21 @@ pub fn lowered(n: u64) -> i64
         -1 - below
     } else {
         (n - 9223372036854775808) as i64
+    }
+}
+
+// 2^63: where raised numbers have 0.
+const RAISED_ZERO: u64 = 9223372036854775808;
+
+// The bits of a signed number, read without a sign.
+pub fn unsigned(z: i64) -> u64
+    ensures { λ r. ⌜ r ≡ bitsOf z ⌝ }
+{
+    let n = raised(z);
+    if n < RAISED_ZERO {
+        n + RAISED_ZERO
+    } else {
+        n - RAISED_ZERO
     }
 }
 

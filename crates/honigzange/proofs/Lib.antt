@@ -1,2 +1,4 @@
 pub mod Writes
 pub mod Lists
+pub mod Rates
+pub mod Once

@@ -1,10 +1,14 @@
 -- What the C interface's numbers say, and what its cells are given.
 use Prim.Native.Nat.{ℕ}
 use mathlib.Core.Bool.{Bool}
-use mathlib.Core.List.{List}
+use mathlib.Core.List.{List, [], _∷_, _++_}
 use lib.ListN.{length}
 use lib.IntN.{ℤ}
+use Rattle.base.specs.Parts.{bitsOf}
 use Rattle.scale.specs.Time.{Time}
+use Rattle.drift.specs.Rate.{Pair}
+use Rattle.drift.specs.declared.Extreme as E
+use Rattle.drift.specs.declared.Report.{Report}
 use Rattle.calendar.specs.declared.Date.{Date}
 use Rattle.calendar.specs.declared.Ordinal.{Ordinal}
 use Rattle.leap.specs.declared.Utc.{Utc}
@@ -71,3 +75,15 @@ listedCount x = x .count
 
 abbrev pub listedMore : Listed → Bool
 listedMore x = x .more
+
+abbrev pub pair : ℤ → ℕ → ℤ → ℕ → Pair
+pair s k t l = record { onboard = time s k; ground = time t l }
+
+-- the numerator's bits, the denominator and the place: without a rate all are 0
+abbrev pub numbersIn : E.Extreme → List ℕ
+numbersIn E.the-variants.Nothing = 0 ∷ 0 ∷ 0 ∷ []
+numbersIn (E.the-variants.At place r) = bitsOf (r .num) ∷ r .den ∷ place ∷ []
+
+-- the numbers of a report in their order
+abbrev pub numbersOf : Report → List ℕ
+numbersOf x = x .rates ∷ x .range ∷ x .«not_elapsed» ∷ x .«off_grid» ∷ numbersIn (x .smallest) ++ numbersIn (x .largest)

@@ -5,10 +5,14 @@ use mathlib.Core.List.{List}
 use Prim.Native.Nat.{ℕ}
 use lib.IntN.{ℤ}
 use Rattle.base.specs.Outcome.{Outcome, status, cell, given}
+use Rattle.drift.specs.Fraction.{Fraction}
+use Rattle.drift.specs.Run as D
+use Rattle.drift.specs.Answers as A
+use Rattle.drift.specs.declared.Report.{Report}
 use Rattle.octets.specs.Writes.{filled}
 use Rattle.window.specs.Window.{Named, listed, leaves}
 use Rattle.codes.specs.Reading.{Scanned}
-use Rattle.honigzange.specs.Cells.{lengthOf, scannedSec, scannedTicks, scannedUsed, listedTicks, listedCount, listedMore}
+use Rattle.honigzange.specs.Cells.{numbersOf, lengthOf, scannedSec, scannedTicks, scannedUsed, listedTicks, listedCount, listedMore}
 
 -- a binary read: the record's seconds and ticks, and how many bytes the code takes
 pub record Scans (x : Outcome Scanned) (r : ℕ) (sec sec' : ℤ) (ticks ticks' used used' : ℕ) : Type 0 where
@@ -30,3 +34,15 @@ pub record Listing (x : Outcome (Named ℤ)) (r : ℕ) (list list' : List ℤ) (
   pub parts : ticks' ≡ cell listedTicks (given (listed list) x) ticks
   pub number : count' ≡ cell listedCount (given (listed list) x) count
   pub further : more' ≡ cell listedMore (given (listed list) x) more
+
+-- a rate: its numerator and denominator
+pub record RateCells (x : Outcome Fraction) (r : ℕ) (num num' : ℤ) (den den' : ℕ) : Type 0 where
+  pub answer : r ≡ status x
+  pub rate : A.Lowered x (record { num = num; den = den }) (record { num = num'; den = den' })
+
+-- a run's report: it is never refused, and its cells are the numbers of a report that meets the definition
+pub record ReportCells (x : D.Report) (r : ℕ) (cells' : List ℕ) : Type 0 where
+  pub answer : r ≡ 0
+  pub report : Report
+  pub meets : A.Reports x report
+  pub cells : cells' ≡ numbersOf report

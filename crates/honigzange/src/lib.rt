@@ -2,6 +2,7 @@
 mod answers;
 mod binaries;
 mod calendars;
+mod drifts;
 mod leaps;
 mod listings;
 mod preambles;

@@ -1,5 +1,6 @@
 pub mod Rungs
 pub mod RungsScale
+pub mod RungsDrift
 pub mod RungsCalendar
 pub mod RungsAscii
 pub mod RungsFields

@@ -13,6 +13,8 @@ use Rattle.base.proofs.Ladders.{done-is}
 use Rattle.scale.specs.Time.{Time, isRecord, differenceOf}
 use Rattle.scale.specs.Latest.{NotAfter}
 use Rattle.scale.proofs.Latest.{later-source}
+use Rattle.drift.specs.Fraction.{Fraction}
+use Rattle.drift.specs.Answers.{Lowered}
 use Rattle.octets.specs.Stores.{pasted}
 use Rattle.octets.specs.Writes.{filled}
 use Rattle.leap.specs.Table.{Table}
@@ -46,11 +48,11 @@ use Rattle.promises.proofs.Scale as Z
 use Rattle.promises.proofs.Listings as T
 
 -- ==== 1
--- "Every entry point takes any bytes, any record, any settings and any room, and ends with a result or one of nine numbered refusals"; given exactly when document 01 says: proofs/RungsCalls
+-- "Every entry point takes any bytes, any record, any settings and any room, and ends with a result or one of nine numbered refusals", joined by 10 and 11 (document 02); given exactly when documents 01 and 02 say: proofs/RungsCalls
 pub ends-numbered : (t : Table) → reckons t ≡ true → (c : Call) → Done (outcomeOf t c) ⊎ Refused (outcomeOf t c)
 ends-numbered t g c = ends-by (outcomeOf t c) (rungsOf t c) (calls-exactly t g c) (calls-numbered t c)
 
--- what a call from C answers: 0 exactly with a result, and else a number up to 9
+-- what a call from C answers: 0 exactly with a result, and else a number up to the last
 pub answers-numbered : (t : Table) → reckons t ≡ true → (c : Call) → ((status (outcomeOf t c) ≡ 0) ↔ Done (outcomeOf t c)) × (status (outcomeOf t c) ≤ lastNumber)
 answers-numbered t g c = answers-by (outcomeOf t c) (ends-numbered t g c)
 
@@ -65,6 +67,10 @@ refused-leaves-bytes o n h at out = rw h
 -- .. each element of a lent list, and the cells of a listing
 pub refused-leaves-list : {B : Type 0} (o : Outcome (Named ℤ)) (n : ℕ) → o ≡ refused n → (entry : List ℤ) (f : Listed → B) (old : B) → (leaves o entry ≡ entry) × (cell f (given (listed entry) o) old ≡ old)
 refused-leaves-list o n h entry f old = rw h (refl, refl)
+
+-- .. and the two cells of a rate
+pub refused-leaves-rate : (o : Outcome Fraction) (n : ℕ) → o ≡ refused n → (old new : Fraction) → Lowered o old new → new ≡ old
+refused-leaves-rate o n h old new l = rw h at l
 
 -- "a refused binary read hands back all its bytes as unread"
 pub refused-reads-none : (t : Table) (s : List ℕ) (p : Preamble) (e : ℤ) (n : ℕ) → scanOf t s p e ≡ refused n → (usedOf (scanOf t s p e) ≡ 0) × (drop (usedOf (scanOf t s p e)) s ≡ s)

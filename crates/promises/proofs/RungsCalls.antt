@@ -1,10 +1,13 @@
--- For each call of the C interface and each refusal number: the answer is that refusal exactly when its condition, in document 01's words, is broken and no earlier one is, and a result exactly when none is. By any table, or any that reckons.
+-- For each call of the C interface and each refusal number: the answer is that refusal exactly when its condition, in the words of documents 01 and 02, is broken and no earlier one is, and a result exactly when none is. By any table, or any that reckons.
 use mathlib.Core.Path.{_≡_, refl}
 use mathlib.Core.Bool.{Bool, true}
 use mathlib.Core.List.{List, [], _∷_, map}
 use Prim.Native.Nat.{ℕ}
 use lib.IntN.{ℤ}
+use Rattle.base.specs.Outcome.{done}
 use Rattle.scale.specs.Time.{Time, differenceOf, shiftOf}
+use Rattle.drift.specs.Rate.{Pair, quotientOf}
+use Rattle.drift.specs.Run.{reportOf}
 use Rattle.calendar.specs.Gregorian.{dayOfDate, dayOfOrdinal, dateOfDay, ordinalOfDay}
 use Rattle.leap.specs.Table.{Table}
 use Rattle.leap.specs.Utc.{utcOfSecond, secondOfUtc}
@@ -22,6 +25,7 @@ use Rattle.listing.specs.AsciiTag.{listAscii}
 use Rattle.promises.specs.Promises as P
 use Rattle.promises.specs.Rungs.{Rung, numbered, Exactly}
 use Rattle.promises.specs.RungsScale.{differenceRungs, shiftRungs}
+use Rattle.promises.specs.RungsDrift.{rateRungs, ratesRungs}
 use Rattle.promises.specs.RungsCalendar.{dayOfDateRungs, dayOfOrdinalRungs, dateOfDayRungs, ordinalOfDayRungs, utcOfSecondRungs, secondOfUtcRungs}
 use Rattle.promises.specs.RungsAscii.{readAsciiRungs, writeAsciiRungs, writeWallRungs}
 use Rattle.promises.specs.RungsBinary.{readBinaryRungs, writeBinaryRungs}
@@ -29,6 +33,7 @@ use Rattle.promises.specs.RungsTags.{listCucRungs, listAsciiRungs}
 use Rattle.promises.specs.RungsCalls.{rungsOf}
 use Rattle.promises.proofs.Rungs.{by-rungs}
 use Rattle.promises.proofs.RungsScale.{difference-rungs, shift-rungs}
+use Rattle.promises.proofs.RungsDrift.{rate-rungs, rates-rungs}
 use Rattle.promises.proofs.RungsCalendar.{day-of-date-rungs, day-of-ordinal-rungs, date-of-day-rungs, ordinal-of-day-rungs, utc-of-second-rungs, second-of-utc-rungs}
 use Rattle.promises.proofs.RungsAscii.{read-ascii-rungs, write-ascii-rungs, write-wall-rungs}
 use Rattle.promises.proofs.RungsBinary.{read-binary-rungs, write-binary-rungs}
@@ -46,6 +51,10 @@ writing-order t r o e front l out = (refl, refl, refl)
 
 pub listing-order : (t : Table) (s : List ℕ) (p : Preamble) (e : ℤ) (from to : Time) → (numbers (listCucRungs s p e from to) ≡ 1 ∷ 2 ∷ 3 ∷ 7 ∷ 1 ∷ 4 ∷ 7 ∷ 7 ∷ 9 ∷ []) × (numbers (listAsciiRungs t s from to) ≡ 1 ∷ 4 ∷ 7 ∷ 7 ∷ 9 ∷ 5 ∷ [])
 listing-order t s p e from to = (refl, refl)
+
+-- document 02, request 1: "Refused in this order: an invalid record 7, one off the 2^-24 s grid new 11, an elapsed time of 2^32 s or more in size 7, ground elapsed zero or negative new 10"
+pub rate-order : (p q : Pair) → numbers (rateRungs p q) ≡ 7 ∷ 11 ∷ 7 ∷ 10 ∷ []
+rate-order p q = refl
 
 -- ---- records and spans
 pub difference : (a b : Time) → Exactly (differenceOf a b) (differenceRungs a b)
@@ -97,6 +106,13 @@ list-cuc s p e from to = by-rungs (listCuc s p e from to) (listCucRungs s p e fr
 pub list-ascii : (t : Table) (s : List ℕ) (from to : Time) → Exactly (listAscii t s from to) (listAsciiRungs t s from to)
 list-ascii t s from to = by-rungs (listAscii t s from to) (listAsciiRungs t s from to) (list-ascii-rungs t s from to)
 
+-- ---- drift
+pub rate : (p q : Pair) → Exactly (quotientOf p q) (rateRungs p q)
+rate p q = by-rungs (quotientOf p q) (rateRungs p q) (rate-rungs p q)
+
+pub rates : (run : List Pair) → Exactly (done (reportOf run)) (ratesRungs run)
+rates run = by-rungs (done (reportOf run)) (ratesRungs run) (rates-rungs run)
+
 -- ---- all calls at once
 module _ (t : Table) (g : reckons t ≡ true) where
   -- each is refused exactly by its rungs ..
@@ -116,8 +132,10 @@ module _ (t : Table) (g : reckons t ≡ true) where
   calls-exactly (P.writeWall r out) = write-wall t g r out
   calls-exactly (P.listCuc s front p e since before) = list-cuc s (from front (octet p)) e since before
   calls-exactly (P.listAscii s since before) = list-ascii t s since before
+  calls-exactly (P.rate p q) = rate p q
+  calls-exactly (P.rates run) = rates run
 
--- .. whose numbers are among the nine
+-- .. whose numbers are among those that there are
 pub calls-numbered : (t : Table) (c : P.Call) → numbered (rungsOf t c) ≡ true
 calls-numbered t (P.difference a b) = refl
 calls-numbered t (P.shift r s) = refl
@@ -134,3 +152,5 @@ calls-numbered t (P.writeAscii r l out) = refl
 calls-numbered t (P.writeWall r out) = refl
 calls-numbered t (P.listCuc s front p e since before) = refl
 calls-numbered t (P.listAscii s since before) = refl
+calls-numbered t (P.rate p q) = refl
+calls-numbered t (P.rates run) = refl

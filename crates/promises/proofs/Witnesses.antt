@@ -10,6 +10,7 @@ use lib.Signed.{leZ, ltZ}
 use Rattle.base.specs.Outcome.{Outcome, done, refused, given, status}
 use Rattle.base.specs.Parts.{within}
 use Rattle.scale.specs.Time.{Time, good}
+use Rattle.drift.specs.Rate.{Pair, quotientOf}
 use Rattle.octets.specs.Counts.{countOf}
 use Rattle.octets.specs.Writes.{roomed}
 use Rattle.calendar.specs.Gregorian.{kind, yearStart, yearsTo, row, monthLength, isDate, isOrdinal, dayIndex, ordinalOn, dateIn, indexOfDate, indexOfOrdinal, indexOfDay, ordinalAt}
@@ -159,7 +160,11 @@ sixties : given (listed (lent 2)) (listBy builtin (P.letters (bytes "::60")) (ti
 unfolding good within timeOf momentOf isMoment L.utcOfSecond L.readingOf L.liftedBy L.secondOfUtc L.secondOf readingAt coversSecond dayHolding secondAt covers dayLength start offset builtin kind yearStart yearsTo row monthLength isDate isOrdinal dayIndex ordinalOn dateIn indexOfDate indexOfOrdinal indexOfDay ordinalAt calendarAs clockAs unzoned timeIn alone joined formed goodDay goodClock wantOf names dayFits clockFits AsciiTag.covered AsciiTag.listWanted AsciiTag.listAscii shapeOf days months hours minutes startAt momentsIn firstSecond namedIn filter consIf range up listed
 sixties = refl
 
--- ---- each call ends with a result, and each is refused: among them all nine numbers
+-- ---- each call ends with a result, and each but that of a run of pairs is refused: among them all numbers
+-- so many seconds and ticks onboard and on the ground
+abbrev pair : ℤ → ℕ → ℤ → ℕ → Pair
+pair s k u l = record { onboard = time s k; ground = time u l }
+
 abbrev answers : List Call → List ℕ
 answers = map (λ (c : Call). status (outcomeOf builtin c))
 
@@ -169,15 +174,18 @@ layout d = record { ordinal = false; digits = d; zone = true }
 results : answers
     (P.difference leap early ∷ P.shift early (time (negsuc 0) 5) ∷ P.dayOfDate 2024 2 29 ∷ P.dateOfDay (pos 0) ∷ P.dayOfOrdinal 2024 366 ∷ P.ordinalOfDay (negsuc 714778) ∷ P.utcOfSecond (pos 1861920036) ∷ P.secondOfUtc (pos 21549) 86400
     ∷ P.readBinary (0x1c ∷ 0x6e ∷ 0xfa ∷ 0xa5 ∷ 0x24 ∷ []) true 0 (pos 0) ∷ P.writeBinary leap true 0x1c (pos 0) room ∷ P.readAscii (bytes "2016-12-31T23:59:60") ∷ P.writeAscii leap (layout 12) room ∷ P.writeWall leap room
-    ∷ P.listCuc (16 ∷ 0 ∷ []) true 0 (pos 0) (time (pos 0) 0) (time (pos 9) 0) ∷ P.listAscii (bytes "::60") leap leap ∷ [])
-    ≡ replicate 15 0
-unfolding good within allows laid laidAs cucLaid cdsLaid ccsLaid headedOf scanIn scanOf writeOf roomed countOf U.isWidth U.width U.field U.holds U.inOctets U.bytesOf A.width A.layoutOf A.dayAt A.clockAt A.fieldsOf A.text A.dayText A.clockText A.codeText A.bytesOf lettersOf shaped shapeOf codeShapes timeOf momentOf isMoment L.utcOfSecond L.readingOf L.liftedBy L.secondOfUtc L.secondOf readingAt coversSecond dayHolding secondAt covers dayLength start offset builtin kind yearStart yearsTo row monthLength isDate isOrdinal dayIndex ordinalOn dateIn indexOfDate indexOfOrdinal indexOfDay ordinalAt K.tagWith K.tagIn K.periodicOf K.listPeriodic K.listCuc startAt momentsIn firstSecond counted namedIn filter consIf range up calendarAs clockAs unzoned timeIn alone joined formed goodDay goodClock wantOf names dayFits clockFits AsciiTag.covered AsciiTag.listWanted AsciiTag.listAscii days months hours minutes
+    ∷ P.listCuc (16 ∷ 0 ∷ []) true 0 (pos 0) (time (pos 0) 0) (time (pos 9) 0) ∷ P.listAscii (bytes "::60") leap leap
+    ∷ P.rate (pair (pos 0) 0 (pos 0) 0) (pair (negsuc 0) 0 (pos 2) 0) ∷ P.rates [] ∷ [])
+    ≡ replicate 17 0
+unfolding quotientOf good within allows laid laidAs cucLaid cdsLaid ccsLaid headedOf scanIn scanOf writeOf roomed countOf U.isWidth U.width U.field U.holds U.inOctets U.bytesOf A.width A.layoutOf A.dayAt A.clockAt A.fieldsOf A.text A.dayText A.clockText A.codeText A.bytesOf lettersOf shaped shapeOf codeShapes timeOf momentOf isMoment L.utcOfSecond L.readingOf L.liftedBy L.secondOfUtc L.secondOf readingAt coversSecond dayHolding secondAt covers dayLength start offset builtin kind yearStart yearsTo row monthLength isDate isOrdinal dayIndex ordinalOn dateIn indexOfDate indexOfOrdinal indexOfDay ordinalAt K.tagWith K.tagIn K.periodicOf K.listPeriodic K.listCuc startAt momentsIn firstSecond counted namedIn filter consIf range up calendarAs clockAs unzoned timeIn alone joined formed goodDay goodClock wantOf names dayFits clockFits AsciiTag.covered AsciiTag.listWanted AsciiTag.listAscii days months hours minutes
 results = refl
 
 refusals : answers
     (P.difference leap (time (pos 0) 4096000000000000) ∷ P.shift early (time (pos 2199023255552) 0) ∷ P.dayOfDate 2023 2 29 ∷ P.dateOfDay (pos 2937280) ∷ P.dayOfOrdinal 2023 366 ∷ P.ordinalOfDay (pos 2937280) ∷ P.utcOfSecond (pos 441763209) ∷ P.secondOfUtc (pos 21550) 86400
     ∷ P.readBinary (0x1c ∷ 0x6e ∷ []) true 0 (pos 0) ∷ P.writeBinary leap true 0x60 (pos 0) room ∷ P.readAscii (bytes "2016-12-31T12:00:60") ∷ P.writeAscii leap (layout 13) room ∷ P.writeWall leap (7 ∷ [])
-    ∷ P.listCuc (16 ∷ 0 ∷ []) true 0 (pos 0) (time (pos 9) 0) (time (pos 0) 0) ∷ P.listAscii (bytes "::60") early leap ∷ [])
-    ≡ 7 ∷ 7 ∷ 4 ∷ 7 ∷ 4 ∷ 7 ∷ 5 ∷ 6 ∷ 1 ∷ 2 ∷ 4 ∷ 3 ∷ 8 ∷ 9 ∷ 5 ∷ []
-unfolding good within allows laid laidAs cucLaid cdsLaid ccsLaid headedOf scanIn scanOf writeOf roomed countOf U.isWidth U.width U.field U.holds U.inOctets U.bytesOf A.width A.layoutOf A.dayAt A.clockAt A.fieldsOf A.text A.dayText A.clockText A.codeText A.bytesOf lettersOf shaped shapeOf codeShapes timeOf momentOf isMoment L.utcOfSecond L.readingOf L.liftedBy L.secondOfUtc L.secondOf readingAt coversSecond dayHolding secondAt covers dayLength start offset builtin kind yearStart yearsTo row monthLength isDate isOrdinal dayIndex ordinalOn dateIn indexOfDate indexOfOrdinal indexOfDay ordinalAt K.tagWith K.tagIn K.periodicOf K.listPeriodic K.listCuc startAt momentsIn firstSecond counted namedIn filter consIf range up calendarAs clockAs unzoned timeIn alone joined formed goodDay goodClock wantOf names dayFits clockFits AsciiTag.covered AsciiTag.listWanted AsciiTag.listAscii days months hours minutes
+    ∷ P.listCuc (16 ∷ 0 ∷ []) true 0 (pos 0) (time (pos 9) 0) (time (pos 0) 0) ∷ P.listAscii (bytes "::60") early leap
+    ∷ P.rate (pair (pos 0) 0 (pos 0) 0) (pair (pos 0) 1 (pos 0) 4096000000000000) ∷ P.rate (pair (pos 0) 0 (pos 0) 0) (pair (pos 4294967296) 1 (pos 0) 0)
+    ∷ P.rate (pair (pos 0) 0 (pos 0) 0) (pair (pos 4294967296) 0 (pos 0) 0) ∷ P.rate (pair (pos 0) 0 (pos 0) 0) (pair (pos 1) 0 (pos 0) 0) ∷ [])
+    ≡ 7 ∷ 7 ∷ 4 ∷ 7 ∷ 4 ∷ 7 ∷ 5 ∷ 6 ∷ 1 ∷ 2 ∷ 4 ∷ 3 ∷ 8 ∷ 9 ∷ 5 ∷ 7 ∷ 11 ∷ 7 ∷ 10 ∷ []
+unfolding quotientOf good within allows laid laidAs cucLaid cdsLaid ccsLaid headedOf scanIn scanOf writeOf roomed countOf U.isWidth U.width U.field U.holds U.inOctets U.bytesOf A.width A.layoutOf A.dayAt A.clockAt A.fieldsOf A.text A.dayText A.clockText A.codeText A.bytesOf lettersOf shaped shapeOf codeShapes timeOf momentOf isMoment L.utcOfSecond L.readingOf L.liftedBy L.secondOfUtc L.secondOf readingAt coversSecond dayHolding secondAt covers dayLength start offset builtin kind yearStart yearsTo row monthLength isDate isOrdinal dayIndex ordinalOn dateIn indexOfDate indexOfOrdinal indexOfDay ordinalAt K.tagWith K.tagIn K.periodicOf K.listPeriodic K.listCuc startAt momentsIn firstSecond counted namedIn filter consIf range up calendarAs clockAs unzoned timeIn alone joined formed goodDay goodClock wantOf names dayFits clockFits AsciiTag.covered AsciiTag.listWanted AsciiTag.listAscii days months hours minutes
 refusals = refl

@@ -2,6 +2,7 @@ pub mod Octet
 pub mod Promises
 pub mod Rungs
 pub mod RungsScale
+pub mod RungsDrift
 pub mod RungsCalendar
 pub mod RungsAscii
 pub mod RungsBinary

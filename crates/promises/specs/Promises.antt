@@ -9,6 +9,9 @@ use lib.ListN.{length, getD, take, drop}
 use Rattle.base.specs.Outcome.{Outcome, done, refused, given}
 use Rattle.scale.specs.Time.{Time, perSecond, worth, isRecord, differenceOf, shiftOf}
 use Rattle.scale.specs.Latest.{Latest}
+use Rattle.drift.specs.Fraction.{Fraction}
+use Rattle.drift.specs.Rate.{Pair, quotientOf}
+use Rattle.drift.specs.Run.{Report, reportOf}
 use Rattle.calendar.specs.Gregorian as G
 use Rattle.calendar.specs.declared.Date.{Date}
 use Rattle.calendar.specs.declared.Ordinal.{Ordinal}
@@ -57,6 +60,8 @@ pub data Call : Type 0 where
   writeWall : Time → List ℕ → Call
   listCuc : List ℕ → Bool → ℕ → ℤ → Time → Time → Call
   listAscii : List ℕ → Time → Time → Call
+  rate : Pair → Pair → Call
+  rates : List Pair → Call
 
 -- what each gives, and its outcome: that of its contract
 abbrev pub Result : Call → Type 0
@@ -75,6 +80,9 @@ Result (writeAscii r l out) = List ℕ
 Result (writeWall r out) = List ℕ
 Result (listCuc s front p e since before) = Named ℤ
 Result (listAscii s since before) = Named ℤ
+-- the exact quotient, which is told in lowest terms
+Result (rate p q) = Fraction
+Result (rates run) = Report
 
 abbrev pub outcomeOf : Table → (c : Call) → Outcome (Result c)
 outcomeOf t (difference a b) = differenceOf a b
@@ -92,14 +100,16 @@ outcomeOf t (writeAscii r l out) = asciiOf t l r out
 outcomeOf t (writeWall r out) = wallOf t r out
 outcomeOf t (listCuc s front p e since before) = C.listCuc s (from front (octet p)) e since before
 outcomeOf t (listAscii s since before) = T.listAscii t s since before
+outcomeOf t (rate p q) = quotientOf p q
+outcomeOf t (rates run) = done (reportOf run)
 
 -- it ends with a result ..
 abbrev pub Done : {A : Type 0} → Outcome A → Type 0
 Done {A} o = (a : A) × (o ≡ done a)
 
--- .. "or one of nine numbered refusals": 1 to 9
+-- .. "or one of nine numbered refusals": 1 to 9, joined by 10 and 11 (document 02)
 abbrev pub lastNumber : ℕ
-lastNumber = 9
+lastNumber = 11
 
 abbrev pub Refused : {A : Type 0} → Outcome A → Type 0
 Refused o = (n : ℕ) × (o ≡ refused n) × (1 ≤ n) × (n ≤ lastNumber)

@@ -1,4 +1,4 @@
--- The refusals of a call by their conditions, in their order (document 01, "Refusal numbers"). A condition that has a sense only once the earlier ones hold is a test all the same, "said of" what they leave: where one of them is broken, `firstBroken` does not come to it.
+-- The refusals of a call by their conditions, in their order (document 01, "Refusal numbers", and document 02). A condition that has a sense only once the earlier ones hold is a test all the same, "said of" what they leave: where one of them is broken, `firstBroken` does not come to it.
 use mathlib.Core.Path.{_≡_}
 use mathlib.Core.Bool.{Bool, true, false, cond, _&&_}
 use mathlib.Core.List.{List, [], _∷_}

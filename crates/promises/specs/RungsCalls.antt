@@ -3,9 +3,10 @@ use mathlib.Core.List.{List}
 use Rattle.leap.specs.Table.{Table}
 use Rattle.pfield.specs.PField.{octet}
 use Rattle.codes.specs.Writing.{from}
-use Rattle.promises.specs.Promises.{Call, difference, shift, dayOfDate, dateOfDay, dayOfOrdinal, ordinalOfDay, utcOfSecond, secondOfUtc, readBinary, writeBinary, readAscii, writeAscii, writeWall, listCuc, listAscii}
+use Rattle.promises.specs.Promises.{Call, difference, shift, dayOfDate, dateOfDay, dayOfOrdinal, ordinalOfDay, utcOfSecond, secondOfUtc, readBinary, writeBinary, readAscii, writeAscii, writeWall, listCuc, listAscii, rate, rates}
 use Rattle.promises.specs.Rungs.{Rung}
 use Rattle.promises.specs.RungsScale.{differenceRungs, shiftRungs}
+use Rattle.promises.specs.RungsDrift.{rateRungs, ratesRungs}
 use Rattle.promises.specs.RungsCalendar.{dayOfDateRungs, dayOfOrdinalRungs, dateOfDayRungs, ordinalOfDayRungs, utcOfSecondRungs, secondOfUtcRungs}
 use Rattle.promises.specs.RungsAscii.{readAsciiRungs, writeAsciiRungs, writeWallRungs}
 use Rattle.promises.specs.RungsBinary.{readBinaryRungs, writeBinaryRungs}
@@ -27,3 +28,5 @@ rungsOf t (writeAscii r l out) = writeAsciiRungs t l r out
 rungsOf t (writeWall r out) = writeWallRungs t r out
 rungsOf t (listCuc s front p e since before) = listCucRungs s (from front (octet p)) e since before
 rungsOf t (listAscii s since before) = listAsciiRungs t s since before
+rungsOf t (rate p q) = rateRungs p q
+rungsOf t (rates run) = ratesRungs run

@@ -1,12 +1,13 @@
 //! A small display: it shows what a link delivers, code by code, and what a code that can't be shown is refused
 //! for. Of a counter that has wrapped, and of a tag that was shortened, it shows every moment that they can mean
-//! around the time at which they came. It prints what `examples/c/display.c` does, which is `display.out` there.
+//! around the time at which they came. Of an onboard clock it shows the drift. It prints what
+//! `examples/c/display.c` does, which is `display.out` there.
 
 #![forbid(unsafe_code)]
 
 use honigzange::{
-    difference, list_ascii, list_cuc, read_ascii, read_binary, shift, write_wall, Preamble, Record,
-    Refusal, Span, WALL_ROOM,
+    difference, list_ascii, list_cuc, rate, rates, read_ascii, read_binary, shift, write_wall,
+    Extreme, Pair, Preamble, Record, Refusal, Span, WALL_ROOM,
 };
 
 const PAGE: usize = 4;
@@ -57,6 +58,18 @@ const LEAPS: (&str, Frame) = ("tag ::60", Ascii(b"::60"));
 const MINUTE: (&str, Frame) = ("tag :30", Ascii(b":30"));
 const NOTHING: (&str, Frame) = ("tag -02-29", Ascii(b"-02-29"));
 const DAMAGED: (&str, Frame) = ("tag -02-30", Ascii(b"-02-30"));
+
+/// What an onboard clock said, in CUC with three fine octets, and the ground's time at which that came.
+#[rustfmt::skip]
+const CONTACTS: [(&[u8], &[u8]); 7] = [
+    (b"\x1F\x6E\xFA\xA5\x22\x00\x00\x00", b"2016-12-31T23:59:58Z"),
+    (b"\x1F\x6E\xFA\xA5\x24\x00\x00\x02", b"2016-12-31T23:59:60Z"),
+    (b"\x1F\x6E\xFA\xA5\x24\x00\x00\x02", b"2016-12-31T23:59:60Z"),
+    (b"\x1F\x6E\xFA\xA5\x26\x00\x00\x00", b"2017-01-01T00:00:01Z"),
+    (b"\x1F\x6E\xFA\xA5\x27\x00\x00\x00", b"2017-01-01T00:00:02.001Z"),
+    (b"\x1F\x6E\xFA\xA5\x28\x00\x00\x00", b"2017-01-01T00:00:03Z"),
+    (b"\x1F\x6E\xFA\xA5\x2A\x00\x00\x00", b"2017-01-01T00:00:05Z"),
+];
 
 /// A moment as the wall shows it, or why it can't be shown.
 fn face(moment: Result<Record, Refusal>) -> String {
@@ -133,6 +146,36 @@ fn show_tag((what, tag): (&str, Frame), reach: i64) {
     }
 }
 
+/// The rate from each contact to the next, and what they come to.
+fn show_drift() -> Result<(), Refusal> {
+    let pair = |(onboard, ground)| {
+        Ok(Pair {
+            onboard: read_binary(onboard, Preamble::Front, NO_EPOCH)?.0,
+            ground: read_ascii(ground)?,
+        })
+    };
+    let run = CONTACTS.into_iter().map(pair);
+    let run = run.collect::<Result<Vec<_>, Refusal>>()?;
+    for (place, two) in run.windows(2).enumerate() {
+        match rate(two[0], two[1]) {
+            Ok(rate) => println!("  {place:22} {rate}"),
+            Err(refusal) => println!("  {place:22} {refusal}"),
+        }
+    }
+    let report = rates(&run);
+    println!(
+        "  rates: {}, refused 7: {}, 10: {}, 11: {}",
+        report.rates, report.range, report.not_elapsed, report.off_grid
+    );
+    for (what, extreme) in [("smallest", report.smallest), ("largest", report.largest)] {
+        match extreme {
+            Some(Extreme { rate, place }) => println!("  {what}: {rate} at {place}"),
+            None => println!("  {what}: no rate"),
+        }
+    }
+    Ok(())
+}
+
 fn main() {
     println!("link");
     for (what, frame) in FRAMES {
@@ -144,6 +187,10 @@ fn main() {
     show_tag(NOTHING, DAY);
     show_tag(DAMAGED, DAY);
     show_tag(COUNTER, -DAY);
+    println!("drift");
+    if let Err(refusal) = show_drift() {
+        println!("  {refusal}");
+    }
     println!("refusals");
     for refusal in (1..=u8::MAX).map_while(Refusal::from_number) {
         println!("  {} {}", refusal.number(), refusal.meaning());

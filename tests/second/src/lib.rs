@@ -1,4 +1,4 @@
-//! The second program: an independent implementation of document 01, by other means than the proved one
+//! The second program: an independent implementation of documents 01 and 02, by other means than the proved one
 //! and without any of its code, tables or constants. A call answers its values, or its refusal number.
 
 #![forbid(unsafe_code)]
@@ -11,6 +11,7 @@ mod ccs;
 mod cds;
 mod cuc;
 pub mod cuc_tag;
+pub mod drift;
 pub mod leap;
 pub mod listing;
 mod octets;

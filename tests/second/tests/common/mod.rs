@@ -43,19 +43,23 @@ pub fn floor(count: u64) -> u64 {
 
 /// How often the second program gave each answer: done at 0, and each refusal at its number.
 #[derive(Default, Debug)]
-pub struct Tally([u64; 10]);
+pub struct Tally(Vec<u64>);
 
 impl Tally {
     pub fn count<T>(&mut self, answer: &Result<T, u8>) {
-        let number = answer.as_ref().err().copied().unwrap_or(0);
-        self.0[usize::from(number)] += 1;
+        let number = usize::from(answer.as_ref().err().copied().unwrap_or(0));
+        if self.0.len() <= number {
+            self.0.resize(number + 1, 0);
+        }
+        self.0[number] += 1;
     }
 
     /// A comparison that hits one kind of answer alone shows little.
     pub fn assert_over(&self, done: u64, refused: u64) {
-        let all_refused = self.0[1..].iter().sum::<u64>();
+        let all_refused = self.0.iter().skip(1).sum::<u64>();
+        let all_done = self.0.first().copied().unwrap_or(0);
         assert!(
-            self.0[0] > floor(done) && all_refused > floor(refused),
+            all_done > floor(done) && all_refused > floor(refused),
             "too few of a kind: {self:?}"
         );
     }
@@ -77,7 +81,8 @@ impl Tally {
     }
 
     fn given(&self) -> Vec<(u8, u64)> {
-        (0..).zip(self.0).filter(|&(_, count)| count > 0).collect()
+        let counts = (0..).zip(self.0.iter().copied());
+        counts.filter(|&(_, count)| count > 0).collect()
     }
 }
 

@@ -1,0 +1,14 @@
+pub mod Euclid
+pub mod Turned
+pub mod Apart
+pub mod Quotients
+pub mod Orders
+pub mod Wholes
+pub mod Terms
+pub mod Pairs
+pub mod Extremes
+pub mod Tallies
+pub mod Loops
+pub mod Once
+pub mod Promises
+pub mod Known
