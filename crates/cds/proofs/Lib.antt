@@ -1,4 +1,5 @@
 pub mod Laws
+pub mod Moved
 pub mod Ticks
 pub mod Stores
 pub mod Trips

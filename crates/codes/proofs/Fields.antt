@@ -1,8 +1,8 @@
 -- What holds of every code's T-field, by its layout and by any table that reckons: one law for each fact, whichever the code is.
-use mathlib.Core.Path.{_≡_, refl}
+use mathlib.Core.Path.{_≡_, refl, ap}
 use mathlib.Core.Bool.{Bool, true, false}
 use mathlib.Core.List.{List, _++_}
-use Prim.Native.Nat.{ℕ, _+_, _≤_}
+use Prim.Native.Nat.{ℕ, _+_, _<_, _≤_}
 use lib.ListN.{length, take, drop}
 use Rattle.base.specs.Outcome.{done}
 use Rattle.scale.specs.Time.{Time, isRecord}
@@ -16,18 +16,24 @@ use Rattle.ccs.specs.declared.Layout.{Layout as CcsLayout}
 use Rattle.cuc.specs.Cuc.{isWidth as isCuc, width as cucWidth}
 use Rattle.cds.specs.Cds.{isWidth as isCds, width as cdsWidth, field as cdsField, bytesOf as cdsBytes}
 use Rattle.ccs.specs.Ccs.{width as ccsWidth, field as ccsField, bytesOf as ccsBytes}
+use Rattle.octets.proofs.Moved.{Same}
 use Rattle.cuc.proofs.Layouts as UL
 use Rattle.cds.proofs.Laws as DL
+use Rattle.ccs.proofs.Rungs as CR
 use Rattle.cuc.proofs.Promises as U
 use Rattle.cds.proofs.Promises as D
 use Rattle.ccs.proofs.Promises as C
+use Rattle.cuc.proofs.Moved as UM
+use Rattle.cds.proofs.Moved as DM
+use Rattle.ccs.proofs.Moved as CM
 use Rattle.leap.specs.Table.{Table}
-use Rattle.utc.specs.Reckoning.{reckons}
+use Rattle.utc.specs.Reckoning.{reckons, readBy}
 use Rattle.utc.proofs.Lift.{read-of, written-of, lift-written, lift-read}
 use Rattle.codes.specs.Reading.{fieldOf, widthOf, ReadsIn}
 use Rattle.codes.specs.Writing.{bytesOf}
 use Rattle.pfield.specs.declared.Layout.{Layout}
 use Rattle.pfield.specs.declared.Layout.the-variants.{Cuc, Cds, Ccs}
+use Rattle.pfield.proofs.Layouts.{isLayoutOf}
 
 -- a T-field is short
 cuc-low : (l : CucLayout) (b : Bool) → isCuc l ≡ b → cucWidth l ≤ 13
@@ -48,6 +54,12 @@ width-low (Cuc l) = cuc-low l _ refl
 width-low (Cds l) = cds-low l _ refl
 width-low (Ccs l) = ccs-low l _ refl
 
+-- and that of a layout that there is has an octet
+pub width-some : (l : Layout) → isLayoutOf l ≡ true → 0 < widthOf l
+width-some (Cuc l) e = omega (arith, UL.width-range l e)
+width-some (Cds l) e = omega (arith, DL.width-is l e)
+width-some (Ccs l) e = omega (arith, CR.width-is l (leb-true (l .segments) 6 e))
+
 -- the octets of a T-field that was read, and of one that was written
 pub field-width : (t : Table) (s : List ℕ) (at : ℕ) (l : Layout) (x : Time) → fieldOf t s at l ≡ done x → at + widthOf l ≤ length s
 field-width t s at (Cuc l) x h = U.read-width s at l x h
@@ -58,6 +70,12 @@ pub bytes-width : (t : Table) (l : Layout) (r : Time) (code : List ℕ) → byte
 bytes-width t (Cuc l) r code h = U.write-width l r code h
 bytes-width t (Cds l) r code h = let w = written-of t (cdsBytes l) r code h in D.write-width l (w .moment) code (w .writes)
 bytes-width t (Ccs l) r code h = let w = written-of t (ccsBytes l) r code h in C.write-width l (w .moment) code (w .writes)
+
+-- a T-field is read from its own octets alone, wherever they stand
+pub field-moved : (t : Table) (s u : List ℕ) (at to : ℕ) (l : Layout) → Same s u at to (widthOf l) → fieldOf t s at l ≡ fieldOf t u to l
+field-moved t s u at to (Cuc l) m = UM.field-moved s u at to l m
+field-moved t s u at to (Cds l) m = ap (readBy t) (DM.field-moved s u at to l m)
+field-moved t s u at to (Ccs l) m = ap (readBy t) (CM.field-moved s u at to l m)
 
 module _ (t : Table) (g : reckons t ≡ true) where
   -- what was read is a record, and writes the same bytes

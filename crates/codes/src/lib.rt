@@ -25,7 +25,7 @@ ghost use Rattle.leap.specs.Builtin.{builtin};
 ghost use Rattle.utc.specs.Reckoning.{writtenBy};
 ghost use Rattle.cds.specs.Cds as D;
 ghost use Rattle.ccs.specs.Ccs as C;
-ghost use Rattle.codes.specs.Reading.{scanned, scanIn, scanOf, usedOf};
+ghost use Rattle.codes.specs.Reading.{fieldOf, widthOf, scanned, scanIn, scanOf, usedOf};
 ghost use Rattle.codes.specs.Writing.{bytesOf, fronted, writeOf};
 ghost use Rattle.codes.specs.Answers.{saysScan};
 
@@ -57,6 +57,28 @@ pub fn scan(s: &[u8], p: Preamble, epoch: i64) -> ScanAnswer
     match pfield::read(s, p, Codes::All, epoch) {
         Head::Refused(why) => ScanAnswer::Refused(why),
         Head::Done(l, at) => field(s, at, l),
+    }
+}
+
+// The T-field of a layout that starts at `at`.
+pub fn read_field(s: &[u8], at: usize, l: Layout) -> RecordAnswer
+    ensures { λ r. ⌜ saysRecord r ≡ fieldOf builtin (now (s .entry)) at l ⌝ }
+{
+    match l {
+        Layout::Cuc(c) => cuc::read(s, at, c),
+        Layout::Cds(d) => utc::timed(cds::read(s, at, d)),
+        Layout::Ccs(c) => utc::timed(ccs::read(s, at, c)),
+    }
+}
+
+// How many octets a T-field has.
+pub fn size(l: Layout) -> usize
+    ensures { λ r. ⌜ r ≡ widthOf l ⌝ }
+{
+    match l {
+        Layout::Cuc(c) => cuc::size(c),
+        Layout::Cds(d) => cds::size(d),
+        Layout::Ccs(c) => ccs::size(c),
     }
 }
 
@@ -99,11 +121,7 @@ fn field(s: &[u8], at: usize, l: Layout) -> ScanAnswer
     requires { ⌜ at ≤ 1 ⌝ }
     ensures { λ r. ⌜ saysScan r ≡ scanIn builtin (now (s .entry)) at l ⌝ }
 {
-    match l {
-        Layout::Cuc(c) => ended(cuc::read(s, at, c), at + cuc::size(c)),
-        Layout::Cds(d) => ended(utc::timed(cds::read(s, at, d)), at + cds::size(d)),
-        Layout::Ccs(c) => ended(utc::timed(ccs::read(s, at, c)), at + ccs::size(c)),
-    }
+    ended(read_field(s, at, l), at + size(l))
 }
 
 fn ended(a: RecordAnswer, end: usize) -> ScanAnswer

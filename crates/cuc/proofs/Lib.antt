@@ -3,6 +3,7 @@ pub mod Layouts
 pub mod Sources
 pub mod Times
 pub mod Fields
+pub mod Moved
 pub mod Stores
 pub mod Promises
 pub mod Once

@@ -2,6 +2,7 @@ pub mod Places
 pub mod Pastes
 pub mod Turns
 pub mod Counts
+pub mod Moved
 pub mod Tables
 pub mod Writes
 pub mod Once

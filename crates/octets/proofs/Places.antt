@@ -52,6 +52,11 @@ module _ (ok : ℕ → Bool) where
   good-append s t zero l = refl
   good-append s t (suc w) l = rw (good-append s t w (omega arith), List·getD-append s t 0 w l)
 
+  pub good-take : (s : List ℕ) (w : ℕ) → w ≤ length s → allGood ok (take w s) w ≡ allGood ok s w
+  good-take s w l =
+      sym (good-append (take w s) (drop w s) w (omega (arith, length-take-le w s l)))
+      ∙ ap (λ (t : List ℕ). allGood ok t w) (take-append-drop w s)
+
   -- a run in two parts
   pub good-split : (s : List ℕ) (w k : ℕ) → allGood ok s (w + k) ≡ allGood ok s w && allGood ok (drop w s) k
   good-split s w zero = rw add-zero (and-one (allGood ok s w))

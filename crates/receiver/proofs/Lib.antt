@@ -1,0 +1,11 @@
+pub mod Puts
+pub mod Clear
+pub mod Rows
+pub mod Runs
+pub mod Going
+pub mod States
+pub mod Passing
+pub mod Calls
+pub mod Cuts
+pub mod Promises
+pub mod Once

@@ -1,0 +1,5 @@
+pub mod Fields
+pub mod Receiver
+pub mod Answers
+pub mod Runs
+pub mod Inner
