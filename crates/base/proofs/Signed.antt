@@ -12,8 +12,8 @@ use mir.Syntax.{Width}
 use mir.Val.{SFits, Fits, toZ, ofZ, bits, hbits}
 use mir.ValLaws.{toZ-ofZ}
 use borrow.Author.Tests.{lt-ltb, le-ltb, le-leb, lt-leb, ltb-true, ltb-false, leb-true, leb-false}
-use Rattle.base.specs.Parts.{plus, minus, within, at, loweredBy, bitsOf, floor, rest}
-use Rattle.base.proofs.Bools.{and-left, and-right, and-false, by-two}
+use Rattle.base.specs.Parts.{plus, minus, within, at, loweredBy, bitsOf, signedOf, floor, rest}
+use Rattle.base.proofs.Bools.{and-left, and-right, and-false, cond-yes, cond-no, by-two}
 use Rattle.base.specs.Seats.{seatOf}
 use Rattle.base.specs.declared.Seat.the-variants.{In, Out}
 
@@ -180,6 +180,18 @@ bits-below n (negsuc m) e h = omega arith
 pub bits-above : (n : ℕ) (z : ℤ) → at (2 ^ 63) n z → 2 ^ 63 ≤ n → n - 2 ^ 63 ≡ bitsOf z
 bits-above n (pos m) e h = omega arith
 bits-above n (negsuc m) e h = absurd (omega arith)
+
+-- and back: what is lowered by 2^63, raised by as much before or lowered once more
+pub signed-below : (n : ℕ) (z : ℤ) → at (2 ^ 63) (n + 2 ^ 63) z → n < 2 ^ 63 → z ≡ signedOf n
+signed-below n z e h = at-same (2 ^ 63) (n + 2 ^ 63) z (pos n) e (omega arith) ∙ sym (cond-yes _ _ (lt-ltb n (2 ^ 63) h))
+
+pub signed-above : (n : ℕ) (z : ℤ) → at (2 ^ 63) (n - 2 ^ 63) z → 2 ^ 63 ≤ n → z ≡ signedOf n
+signed-above n z e h = at-same (2 ^ 63) (n - 2 ^ 63) z (subℕ n (2 ^ 64)) e (omega (arith, less n (2 ^ 64))) ∙ sym (cond-no _ _ (le-ltb n (2 ^ 63) h))
+
+-- the two are inverse
+pub signed-bits : (z : ℤ) → plus z < 2 ^ 63 → minus z ≤ 2 ^ 63 → signedOf (bitsOf z) ≡ z
+signed-bits (pos n) p m = cond-yes _ _ (lt-ltb n (2 ^ 63) p)
+signed-bits (negsuc n) p m = cond-no _ _ (le-ltb (2 ^ 64 - suc n) (2 ^ 63) (omega arith)) ∙ same (subℕ (2 ^ 64 - suc n) (2 ^ 64)) (negsuc n) (omega (arith, less (2 ^ 64 - suc n) (2 ^ 64)))
 
 -- at another bias
 pub at-more : (B K n : ℕ) (z : ℤ) → at B n z → at (B + K) (n + K) z

@@ -2,7 +2,7 @@
 ghost use mathlib.Core.Path.{_≡_};
 ghost use Prim.Native.Nat.{_^_};
 ghost use Rattle.base.specs.Refusals.{number};
-ghost use Rattle.base.specs.Parts.{at, within, bitsOf};
+ghost use Rattle.base.specs.Parts.{at, within, bitsOf, signedOf};
 ghost use Rattle.base.specs.Seats.{seatOf};
 
 // Why a call is refused, in the order of the numbers: 1 to 9 of document 01, 10 and 11 of document 02.
@@ -80,6 +80,17 @@ pub fn unsigned(z: i64) -> u64
         n + RAISED_ZERO
     } else {
         n - RAISED_ZERO
+    }
+}
+
+// The signed number of which these are the bits.
+pub fn of_bits(n: u64) -> i64
+    ensures { λ r. ⌜ r ≡ signedOf n ⌝ }
+{
+    if n < RAISED_ZERO {
+        lowered(n + RAISED_ZERO)
+    } else {
+        lowered(n - RAISED_ZERO)
     }
 }
 

@@ -1,4 +1,5 @@
 pub mod Writes
 pub mod Lists
 pub mod Rates
+pub mod States
 pub mod Once

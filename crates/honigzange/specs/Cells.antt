@@ -2,9 +2,9 @@
 use Prim.Native.Nat.{ℕ}
 use mathlib.Core.Bool.{Bool}
 use mathlib.Core.List.{List, [], _∷_, _++_}
-use lib.ListN.{length}
+use lib.ListN.{length, getD, drop}
 use lib.IntN.{ℤ}
-use Rattle.base.specs.Parts.{bitsOf}
+use Rattle.base.specs.Parts.{bitsOf, signedOf}
 use Rattle.scale.specs.Time.{Time}
 use Rattle.drift.specs.Rate.{Pair}
 use Rattle.drift.specs.declared.Extreme as E
@@ -14,6 +14,9 @@ use Rattle.calendar.specs.declared.Ordinal.{Ordinal}
 use Rattle.leap.specs.declared.Utc.{Utc}
 use Rattle.codes.specs.Reading.{Scanned}
 use Rattle.ascii.specs.declared.Layout.{Layout}
+use Rattle.octets.specs.Places.{be, octets}
+use Rattle.pfield.specs.PField.{octet}
+use Rattle.receiver.specs.declared.Receiver.{Receiver}
 use Rattle.window.specs.Window.{Listed}
 
 abbrev pub itself : ℤ → ℤ
@@ -87,3 +90,14 @@ numbersIn (E.the-variants.At place r) = bitsOf (r .num) ∷ r .den ∷ place ∷
 -- the numbers of a report in their order
 abbrev pub numbersOf : Report → List ℕ
 numbersOf x = x .rates ∷ x .range ∷ x .«not_elapsed» ∷ x .«off_grid» ∷ numbersIn (x .smallest) ++ numbersIn (x .largest)
+
+-- a receiver as its octets: the P octet; the epoch's 64 bits, big-endian; how many octets are pending; and these, with zeros behind them
+abbrev pub stateOf : Receiver → List ℕ
+stateOf r = (r .p .octet ∷ octets 8 (bitsOf (r .epoch))) ++ (r .count ∷ r .pending)
+
+-- and the receiver of which 22 octets are these
+abbrev pub epochIn : List ℕ → ℤ
+epochIn s = signedOf (be (drop 1 s) 8)
+
+abbrev pub receiverIn : List ℕ → Receiver
+receiverIn s = record { p = octet (getD s 0 0); epoch = epochIn s; pending = drop 10 s; count = getD s 9 0 }

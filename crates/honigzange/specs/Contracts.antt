@@ -4,7 +4,7 @@ use mathlib.Core.Bool.{Bool}
 use mathlib.Core.List.{List}
 use Prim.Native.Nat.{ℕ}
 use lib.IntN.{ℤ}
-use Rattle.base.specs.Outcome.{Outcome, status, cell, given}
+use Rattle.base.specs.Outcome.{Outcome, done, status, cell, given}
 use Rattle.drift.specs.Fraction.{Fraction}
 use Rattle.drift.specs.Run as D
 use Rattle.drift.specs.Answers as A
@@ -12,7 +12,10 @@ use Rattle.drift.specs.declared.Report.{Report}
 use Rattle.octets.specs.Writes.{filled}
 use Rattle.window.specs.Window.{Named, listed, leaves}
 use Rattle.codes.specs.Reading.{Scanned}
-use Rattle.honigzange.specs.Cells.{numbersOf, lengthOf, scannedSec, scannedTicks, scannedUsed, listedTicks, listedCount, listedMore}
+use Rattle.receiver.specs.Receiver.{Fate, nextOf}
+use Rattle.receiver.specs.Answers.{countOf, rowsAfter}
+use Rattle.receiver.specs.declared.Receiver.{Receiver}
+use Rattle.honigzange.specs.Cells.{stateOf, receiverIn, numbersOf, lengthOf, scannedSec, scannedTicks, scannedUsed, listedTicks, listedCount, listedMore}
 
 -- a binary read: the record's seconds and ticks, and how many bytes the code takes
 pub record Scans (x : Outcome Scanned) (r : ℕ) (sec sec' : ℤ) (ticks ticks' used used' : ℕ) : Type 0 where
@@ -46,3 +49,15 @@ pub record ReportCells (x : D.Report) (r : ℕ) (cells' : List ℕ) : Type 0 whe
   pub report : Report
   pub meets : A.Reports x report
   pub cells : cells' ≡ numbersOf report
+
+-- a receiver's making: its octets
+pub record MakeCells (x : Outcome Receiver) (r : ℕ) (state state' : List ℕ) : Type 0 where
+  pub answer : r ≡ status x
+  pub octets : state' ≡ cell stateOf x state
+
+-- a piece for a receiver: its octets afterwards, the rows, and how many of them are answers
+pub record FeedCells (x : Outcome Fate) (r : ℕ) (state state' : List ℕ) (rows rows' : List (List ℤ)) (count count' : ℕ) : Type 0 where
+  pub answer : r ≡ status x
+  pub octets : state' ≡ cell (λ (f : Fate). stateOf (nextOf (receiverIn state) (done f))) x state
+  pub answers : rows' ≡ rowsAfter x rows
+  pub number : count' ≡ cell countOf x count

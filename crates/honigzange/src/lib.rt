@@ -6,5 +6,6 @@ mod drifts;
 mod leaps;
 mod listings;
 mod preambles;
+mod receivers;
 mod scales;
 mod texts;

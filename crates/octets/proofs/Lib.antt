@@ -1,5 +1,6 @@
 pub mod Places
 pub mod Pastes
+pub mod Puts
 pub mod Turns
 pub mod Counts
 pub mod Moved

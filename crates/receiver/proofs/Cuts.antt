@@ -9,8 +9,15 @@ use lib.Seq.{drop-append-le, drop-drop}
 use Rattle.leap.specs.Table.{Table}
 use Rattle.pfield.specs.declared.Layout.{Layout}
 use Rattle.codes.specs.Reading.{fieldOf, widthOf}
+use lib.Dec.{leb}
+use Rattle.base.specs.Outcome.{done, need}
+use Rattle.base.proofs.Ladders.{then-done, need-done, done-is}
+use Rattle.codes.proofs.Fields.{width-low}
 use Rattle.receiver.specs.Fields.{fieldsIn, wholeIn, answersIn, leftIn}
+use Rattle.receiver.specs.Receiver.{layoutOf, runOf, Fate, fateOf, feedOf}
+use Rattle.receiver.specs.declared.Receiver.{Receiver}
 use Rattle.receiver.proofs.Runs.{field-first, fields-split}
+use Rattle.receiver.proofs.States.{good}
 
 module _ (t : Table) (l : Layout) where
   -- what follows T-fields that are all there does not count
@@ -54,3 +61,13 @@ module _ (t : Table) (l : Layout) where
 
       pub cut-left : leftIn l (s ++ u) ≡ leftIn l (leftIn l s ++ u)
       cut-left = left-behind (leftIn l s ++ u) rest wholes
+
+-- so a call leaves less than a T-field
+pub few-left : (t : Table) (r : Receiver) (piece : List ℕ) (room : ℕ) (f : Fate) → feedOf t r piece room ≡ done f → length (f .left) ≤ 12
+unfolding feedOf
+few-left t r piece room f h =
+    let (l, (e, d)) = then-done (layoutOf r) (λ l. need (leb (wholeIn l (runOf r piece)) room) 8 (done (fateOf t l (runOf r piece)))) f h in
+    let (_, i) = need-done (leb (wholeIn l (runOf r piece)) room) 8 (done (fateOf t l (runOf r piece))) f d in
+    let k : fateOf t l (runOf r piece) ≡ f = done-is _ f i in
+    let some : 0 < widthOf l = omega (arith, good r l e .few) in
+    rw (← k) (omega (arith, parted t l some (runOf r piece) .1, width-low l))

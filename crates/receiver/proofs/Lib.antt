@@ -1,4 +1,3 @@
-pub mod Puts
 pub mod Clear
 pub mod Rows
 pub mod Runs
@@ -9,3 +8,4 @@ pub mod Calls
 pub mod Cuts
 pub mod Promises
 pub mod Once
+pub mod Known

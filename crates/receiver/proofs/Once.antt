@@ -6,7 +6,7 @@ use lib.IntN.{ℤ}
 use Rattle.base.specs.Outcome.{Outcome, given}
 use Rattle.base.proofs.Once.{refusal-back, answer-once}
 use Rattle.receiver.specs.Receiver.{Fate}
-use Rattle.receiver.specs.Answers.{saysFeed, countOf, Feeds, Makes}
+use Rattle.receiver.specs.Answers.{saysFeed, countOf, noneBy, Feeds, Makes}
 use Rattle.receiver.specs.declared.FeedAnswer as F
 use Rattle.receiver.specs.declared.Fed.{Fed}
 use Rattle.receiver.specs.declared.Receiver.{Receiver}
@@ -25,4 +25,4 @@ feed-once x r old new new' f g a b =
 
 pub make-once : (x : Outcome Receiver) (fresh : Receiver) (f g : Fed) → Makes x fresh f → Makes x fresh g → f ≡ g
 make-once x fresh f g a b =
-    fed f g (answer-is-once (given (λ (r : Receiver). 0) x) (f .answer) (g .answer) (a .answer) (b .answer)) (a .next ∙ sym (b .next))
+    fed f g (answer-is-once (given noneBy x) (f .answer) (g .answer) (a .answer) (b .answer)) (a .next ∙ sym (b .next))

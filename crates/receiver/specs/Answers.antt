@@ -40,7 +40,11 @@ pub record Feeds (x : Outcome Fate) (r : Receiver) (old new : List (List ℤ)) (
   pub next : f .next ≡ nextOf r x
   pub rows : new ≡ rowsAfter x old
 
--- a making: its answer, with no T-field answered yet, and the receiver. One that is refused is all the same judged again by each call
+-- a making answers no T-field
+abbrev pub noneBy : Receiver → ℕ
+noneBy r = 0
+
+-- a making: its answer, and the receiver. One that is refused is judged again by each call
 pub record Makes (x : Outcome Receiver) (fresh : Receiver) (f : Fed) : Type 0 where
-  pub answer : saysFeed (f .answer) ≡ given (λ (r : Receiver). 0) x
+  pub answer : saysFeed (f .answer) ≡ given noneBy x
   pub next : f .next ≡ fresh

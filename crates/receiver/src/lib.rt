@@ -88,8 +88,8 @@ impl Receiver {
                     };
                 }
                 let left = pass(l, n, Held { bytes, count }, piece, rows);
-                let octets = left.bytes;
-                self.pending = octets;
+                let longer = left.bytes;
+                self.pending = longer;
                 self.count = left.count;
                 Fed {
                     answer: FeedAnswer::Done(n),
@@ -188,25 +188,13 @@ fn row_at(s: &[u8], at: usize, l: Layout) -> [i64; 3]
     }
 }
 
-// Octets put in from a place on.
-fn put(out: &mut [u8], at: usize, part: &[u8])
-    requires { ⌜ at + length (now part) ≤ length (now out) ⌝ }
-    ensures { λ _. ⌜ now (out .exit) ≡ pasted (now (out .entry)) at (now (part .entry)) ⌝ }
-{
-    let mut i = 0;
-    while i < part.len() {
-        out[at + i] = part[i];
-        i += 1;
-    }
-}
-
 // Pending octets with more behind them.
 fn appended(pending: [u8; 12], count: usize, part: &[u8]) -> [u8; 12]
     requires { ⌜ count + length (now part) ≤ 12 ⌝ }
     ensures { λ r. ⌜ r ≡ pasted pending count (now (part .entry)) ⌝ }
 {
     let mut longer = pending;
-    put(&mut longer, count, part);
+    octets::put(&mut longer, count, part);
     longer
 }
 
@@ -216,8 +204,8 @@ fn completed(pending: [u8; 12], count: usize, part: &[u8], l: Layout) -> [i64; 3
     ensures { λ r. ⌜ r ≡ rowOf (fieldOf builtin (take count pending ++ now (part .entry)) 0 l) ⌝ }
 {
     let mut field = [0u8; 13];
-    put(&mut field, 0, &pending[..count]);
-    put(&mut field, count, part);
+    octets::put(&mut field, 0, &pending[..count]);
+    octets::put(&mut field, count, part);
     row_at(&field, 0, l)
 }
 

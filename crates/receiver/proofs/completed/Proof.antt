@@ -7,7 +7,7 @@ use native.Mathlib.Omega.{arith}
 use lib.ListN.{length, take, replicate}
 use lib.Seq.{length-take-le}
 use Rattle.octets.specs.Stores.{pasted}
-use Rattle.octets.proofs.Pastes.{length-pasted}
+use Rattle.octets.proofs.Pastes.{length-pasted, stored}
 use Rattle.leap.specs.Builtin.{builtin}
 use Rattle.codes.specs.Reading.{fieldOf}
 use Rattle.codes.proofs.Fields.{width-low}
@@ -30,18 +30,13 @@ slice-aggregate-put-2 : tie.Need-slice-aggregate-put-2
 slice-aggregate-put-2 c = sym (held (c .before .before .before))
 
 put-requires : tie.Need-put-requires
-put-requires c κs = omega (arith, held (c .before .before .before))
+put-requires c κs = search needs
 
 slice-aggregate-put-3 : tie.Need-slice-aggregate-put-3
 slice-aggregate-put-3 c = search needs
 
 put-requires-2 : tie.Need-put-requires-2
-put-requires-2 c κs =
-    let p = c .before .before in
-    let s = p .before .before .before .before in
-    let h = take (s .args .count) (s .args .t1) in
-    let n : length (pasted (replicate 13 0) 0 h) ≡ 13 = length-pasted (replicate 13 0) 0 h (omega (arith, held s)) in
-    rw (p .put .ensures) (omega (arith, width-low (s .args .l)))
+put-requires-2 c κs = search needs
 
 slice-aggregate-row-at : tie.Need-slice-aggregate-row-at
 slice-aggregate-row-at c = search needs
@@ -56,8 +51,12 @@ returns c =
     let part = s .args .part .now in
     let first = c .before .before .before .before .before .before in
     let second = c .before .before .before in
-    let e : second .put2 .last .0 ≡ pasted (pasted (replicate 13 0) 0 h) (length h) part = second .put2 .ensures ∙ rw (first .put .ensures, held s) in
-    c .row-at .ensures ∙ ap rowOf (ap (λ (x : List ℕ). fieldOf builtin x 0 (s .args .l)) e ∙ field-joined builtin (s .args .l) (replicate 13 0) h part (omega (arith, held s)) (width-low (s .args .l)))
+    let low = width-low (s .args .l) in
+    let a : first .put .last .0 ≡ pasted (replicate 13 0) 0 h = stored (omega (arith, held s)) (first .put .ensures) .1 in
+    let n : length (first .put .last .0) ≡ 13 = ap length a ∙ length-pasted (replicate 13 0) 0 h (omega (arith, held s)) in
+    let b : second .put2 .last .0 ≡ pasted (first .put .last .0) (s .args .count) part = stored (omega arith) (second .put2 .ensures) .1 in
+    let e : second .put2 .last .0 ≡ pasted (pasted (replicate 13 0) 0 h) (length h) part = b ∙ rw (a, held s) in
+    c .row-at .ensures ∙ ap rowOf (ap (λ (x : List ℕ). fieldOf builtin x 0 (s .args .l)) e ∙ field-joined builtin (s .args .l) (replicate 13 0) h part (omega (arith, held s)) low)
 
 pub completed-spec : {M : Type 1} → statement M
 completed-spec =
