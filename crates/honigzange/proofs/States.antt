@@ -30,8 +30,8 @@ use Rattle.honigzange.specs.Cells.{stateOf, receiverIn}
 use Rattle.honigzange.specs.Contracts.{MakeCells, FeedCells}
 
 -- ---- the octets, put in one after another
-pub put-in : (p n : ℕ) (mid pending a b : List ℕ) (q r : Bool) → length mid ≡ 8 → length pending ≡ 12 → Stored mid 1 (set (replicate 22 0) 0 p) a q → Stored pending 10 (set a 9 n) b r → b ≡ (p ∷ mid) ++ (n ∷ pending)
-put-in p n mid pending a b q r m s x y =
+pub put-in : (p n : ℕ) (mid pending a b : List ℕ) (q : Bool) → length mid ≡ 8 → length pending ≡ 12 → Stored mid 1 (set (replicate 22 0) 0 p) a q → b ≡ pasted (set a 9 n) 10 pending → b ≡ (p ∷ mid) ++ (n ∷ pending)
+put-in p n mid pending a b q m s x y =
     let zeros : List ℕ = replicate 22 0 in
     let first : set zeros 0 p ≡ pasted zeros 0 (p ∷ []) = paste-one zeros 0 p (lit< tt) in
     let second : a ≡ pasted zeros 0 (p ∷ mid) = then zeros (p ∷ []) mid 0 1 first (stored (omega arith) x .1) refl (lit≤ tt) in
@@ -39,15 +39,14 @@ put-in p n mid pending a b q r m s x y =
     let third : set a 9 n ≡ pasted zeros 0 ((p ∷ mid) ++ (n ∷ [])) = then zeros (p ∷ mid) (n ∷ []) 0 9 second (paste-one a 9 n (omega arith)) (omega arith) (lit≤ tt) in
     let k : length ((p ∷ mid) ++ (n ∷ [])) ≡ 10 = length-append (p ∷ mid) (n ∷ []) ∙ omega arith in
     let ls : length (set a 9 n) ≡ 22 = length-set a 9 n ∙ la in
-    let fourth : b ≡ pasted zeros 0 ((p ∷ mid) ++ (n ∷ []) ++ pending) = then zeros ((p ∷ mid) ++ (n ∷ [])) pending 0 10 third (stored (omega arith) y .1) (omega arith) (lit≤ tt) in
+    let fourth : b ≡ pasted zeros 0 ((p ∷ mid) ++ (n ∷ []) ++ pending) = then zeros ((p ∷ mid) ++ (n ∷ [])) pending 0 10 third y (omega arith) (lit≤ tt) in
     let all = (p ∷ mid) ++ (n ∷ []) ++ pending in
     let l : length all ≡ 22 = length-append ((p ∷ mid) ++ (n ∷ [])) pending ∙ omega arith in
     fourth ∙ paste-first zeros all ∙ ap (λ (i : ℕ). all ++ drop i zeros) l ∙ append-nil all ∙ append-assoc (p ∷ mid) (n ∷ []) pending
 
--- twelve octets that take the place of twelve
-pub put-whole : (part new : List ℕ) (r : Bool) → length part ≡ 12 → Stored part 0 (replicate 12 0) new r → new ≡ part
-put-whole part new r n x =
-    stored (omega arith) x .1 ∙ paste-first (replicate 12 0) part ∙ ap (λ (i : ℕ). part ++ drop i (replicate 12 0)) n ∙ append-nil part
+-- twelve octets in the place of twelve
+pub put-whole : (part : List ℕ) → length part ≡ 12 → pasted (replicate 12 0) 0 part ≡ part
+put-whole part n = paste-first (replicate 12 0) part ∙ ap (λ (i : ℕ). part ++ drop i (replicate 12 0)) n ∙ append-nil part
 
 -- ---- and taken out again
 parts-in : (p n : ℕ) (mid pending : List ℕ) → length mid ≡ 8 → receiverIn ((p ∷ mid) ++ (n ∷ pending)) ≡ record { p = octet p; epoch = signedOf (be mid 8); pending = pending; count = n }

@@ -5,7 +5,8 @@ use receiver::FeedAnswer;
 use receiver::Receiver;
 ghost use mathlib.Core.Path.{_≡_};
 ghost use Prim.Native.Nat.{_<_, _≤_};
-ghost use lib.ListN.{length};
+ghost use lib.ListN.{length, drop};
+ghost use Rattle.octets.specs.Stores.{pasted};
 ghost use Rattle.leap.specs.Builtin.{builtin};
 ghost use Rattle.pfield.specs.PField.{octet};
 ghost use Rattle.receiver.specs.Receiver.{madeOf, feedOf};
@@ -66,24 +67,46 @@ fn state_of(r: Receiver) -> [u8; 22]
     state[0] = p.octet;
     octets::put_count(&mut state, 1, 8, base::unsigned(r.epoch));
     state[9] = r.count as u8;
-    octets::put(&mut state, 10, &pending);
-    state
+    with_pending(state, pending)
+}
+
+fn with_pending(state: [u8; 22], pending: [u8; 12]) -> [u8; 22]
+    ensures { λ s. ⌜ s ≡ pasted state 10 pending ⌝ }
+{
+    let mut whole = state;
+    let mut i = 0;
+    while i < 12 {
+        whole[10 + i] = pending[i];
+        i += 1;
+    }
+    whole
 }
 
 // The receiver of which these are the octets.
 fn receiver_in(state: [u8; 22]) -> Receiver
     ensures { λ r. ⌜ r ≡ receiverIn state ⌝ }
 {
-    let mut pending = [0u8; 12];
-    octets::put(&mut pending, 0, &state[10..]);
     let octet = state[0];
     let p = PField { octet };
+    let pending = pending_in(state);
     Receiver {
         p: p,
         epoch: epoch_in(&state),
         pending: pending,
         count: state[9] as usize,
     }
+}
+
+fn pending_in(state: [u8; 22]) -> [u8; 12]
+    ensures { λ r. ⌜ r ≡ drop 10 state ⌝ }
+{
+    let mut pending = [0u8; 12];
+    let mut i = 0;
+    while i < 12 {
+        pending[i] = state[10 + i];
+        i += 1;
+    }
+    pending
 }
 
 fn epoch_in(state: &[u8]) -> i64

@@ -1,6 +1,5 @@
 pub mod Places
 pub mod Pastes
-pub mod Puts
 pub mod Turns
 pub mod Counts
 pub mod Moved

@@ -1,4 +1,4 @@
-// Big-endian counts, BCD octets and decimal digits, read from bytes and stored into them; and octets stored as they are.
+// Big-endian counts, BCD octets and decimal digits, read from bytes and stored into them.
 use base::Refusal;
 ghost use mathlib.Core.Path.{_≡_};
 ghost use mathlib.Core.Bool.{_&&_};
@@ -142,22 +142,6 @@ pub fn put_decimal(out: &mut [u8], at: usize, w: usize, n: u64) -> bool
         k -= 1;
         out[at + k] = 48 + (m % 10) as u8;
         m = m / 10;
-    }
-    true
-}
-
-// Stores octets as they are from `at` on where there is room, and says whether there is.
-pub fn put(out: &mut [u8], at: usize, part: &[u8]) -> bool
-    ensures { λ r. ⌜ Stored (now (part .entry)) at (now (out .entry)) (now (out .exit)) r ⌝ }
-{
-    let len = out.len();
-    if !fits(len, at, part.len()) {
-        return false;
-    }
-    let mut i = 0;
-    while i < part.len() {
-        out[at + i] = part[i];
-        i += 1;
     }
     true
 }

@@ -1,3 +1,4 @@
+pub mod Pads
 pub mod Clear
 pub mod Rows
 pub mod Runs

@@ -7,20 +7,24 @@ use native.Mathlib.Omega.{arith}
 use lib.IntN.{ℤ}
 use lib.ListN.{length, take, drop, set, replicate, length-append, length-drop, length-replicate}
 use lib.Seq.{take-all, drop-length, drop-drop, length-take-le}
-use Rattle.octets.specs.Stores.{pasted}
-use Rattle.octets.proofs.Pastes.{paste-first}
+use lib.Dec.{lit≤}
 use Rattle.leap.specs.Builtin.{builtin}
 use Rattle.pfield.specs.declared.Layout.{Layout}
 use Rattle.codes.specs.Reading.{fieldOf, widthOf}
 use Rattle.codes.proofs.Fields.{width-low}
 use Rattle.receiver.specs.Fields.{fieldsIn, leftIn}
-use Rattle.receiver.specs.Receiver.{allZero}
 use Rattle.receiver.specs.Answers.{rowOf, rowsOver}
-use Rattle.receiver.specs.Inner.{heldBy, keeps, Passes, Passed}
+use Rattle.receiver.specs.Inner.{padded, heldBy, keeps, Passes, Passed}
 use Rattle.receiver.specs.declared.Held.{Held}
-use Rattle.receiver.proofs.Clear.{zeros-are, zeros-drop, drop-zeros}
+use Rattle.receiver.proofs.Pads.{padded-short, padded-fewer}
 use Rattle.receiver.proofs.Rows.{row-first}
-use Rattle.receiver.proofs.Runs.{none-short, none-answered, completed-within, ends-within, some-answered, some-left}
+use Rattle.receiver.proofs.Runs.{field-padded, none-short, none-answered, first-whole, ends-within, some-answered, some-left}
+
+-- what is short enough is kept whole
+keeps-short : (s : List ℕ) (k : ℕ) → k ≡ length s → k ≤ 12 → record { bytes = padded 12 (padded 13 s); count = k } ≡ keeps s
+keeps-short s k e h =
+    let b : padded 12 (padded 13 s) ≡ s ++ replicate (12 - length s) 0 = padded-fewer 12 13 s (lit≤ tt) ∙ padded-short 12 s (omega arith) in
+    λ i. record { bytes = b i; count = e i }
 
 module _ {l : Layout} {n : ℕ} {h : Held} {piece : List ℕ} {rows : List (List ℤ)} (p : Passes l n h piece rows) (size : length (h .bytes) ≡ 12) where
   -- the octets that the held ones lack
@@ -41,45 +45,32 @@ module _ {l : Layout} {n : ℕ} {h : Held} {piece : List ℕ} {rows : List (List
     pub waits-within : h .count + length piece ≤ 12
     waits-within = omega (arith, width-low l, counted, none-short builtin l (heldBy h) piece lacking lacks some n (p .many) z)
 
-    zeros-left : drop (h .count + length piece) (h .bytes) ≡ replicate (12 - length (heldBy h ++ piece)) 0
-    zeros-left =
-        let d = drop (h .count + length piece) (h .bytes) in
-        let k : length d ≡ 12 - length (heldBy h ++ piece) = omega (arith, length-drop (h .count + length piece) (h .bytes), length-append (heldBy h) piece, counted) in
-        zeros-are d (ap allZero (sym (drop-drop (length piece) (h .count) (h .bytes))) ∙ zeros-drop (length piece) (drop (h .count) (h .bytes)) (p .clear)) ∙ ap (λ (m : ℕ). replicate m 0) k
-
-    pub waits : Passed l (heldBy h ++ piece) rows rows (record { bytes = pasted (h .bytes) (h .count) piece; count = h .count + length piece })
-    unfolding pasted
+    pub waits : Passed l (heldBy h ++ piece) rows rows (record { bytes = padded 12 (padded 13 (heldBy h ++ piece)); count = h .count + length piece })
     waits =
+        let run = heldBy h ++ piece in
         let (a, b) = none-answered builtin l (heldBy h) piece lacking lacks some n (p .many) z in
-        let m : length (heldBy h ++ piece) ≡ h .count + length piece = omega (arith, length-append (heldBy h) piece, counted) in
-        record {
-          left = rw (zeros-left, b) (ap (λ (k : ℕ). record { bytes = heldBy h ++ piece ++ replicate (12 - length (heldBy h ++ piece)) 0; count = k }) (sym m));
-          rows = rw a;
-        }
+        let m : length run ≡ h .count + length piece = omega (arith, length-append (heldBy h) piece, counted) in
+        record { left = keeps-short run (h .count + length piece) (sym m) waits-within ∙ ap keeps (sym b); rows = rw a }
 
   -- ---- it completes some: where the last of them ends
   abbrev end : ℕ
   end = lacking + (n - 1) * widthOf l
 
   module _ (some-there : 0 < n) where
-    pub first-within : lacking ≤ length piece
-    first-within = completed-within builtin l (heldBy h) piece lacking lacks some n (p .many) some-there
-
     pub last-within : (end ≤ length piece) × (length piece - end ≤ 12)
     last-within =
         let (a, b) = ends-within builtin l (heldBy h) piece lacking lacks some n (p .many) some-there in
         (a, omega (arith, b, width-low l))
 
-    keeps-rest : record { bytes = pasted (replicate 12 0) 0 (drop end piece); count = length piece - end } ≡ keeps (leftIn l (heldBy h ++ piece))
-    keeps-rest =
-        let rest = drop end piece in
-        let m : length rest ≡ length piece - end = length-drop end piece in
-        let b = some-left builtin l (heldBy h) piece lacking lacks some n (p .many) some-there in
-        rw (b, paste-first (replicate 12 0) rest, drop-zeros (length rest) 12, m)
-
     -- its answers in their rows: the first, and those behind it
-    pub answers : (first : List ℤ) (later : List (List ℤ)) → first ≡ rowOf (fieldOf builtin (heldBy h ++ take lacking piece) 0 l) → later ≡ rowsOver (fieldsIn builtin l (n - 1) (drop lacking piece)) (drop 1 rows)
-        → Passed l (heldBy h ++ piece) rows (first ∷ later) (record { bytes = pasted (replicate 12 0) 0 (drop end piece); count = length piece - end })
+    pub answers : (first : List ℤ) (later : List (List ℤ)) → first ≡ rowOf (fieldOf builtin (padded 13 (heldBy h ++ piece)) 0 l) → later ≡ rowsOver (fieldsIn builtin l (n - 1) (drop lacking piece)) (drop 1 rows)
+        → Passed l (heldBy h ++ piece) rows (first ∷ later) (record { bytes = padded 12 (padded 13 (drop end piece)); count = length piece - end })
     answers first later e f =
+        let run = heldBy h ++ piece in
         let a = some-answered builtin l (heldBy h) piece lacking lacks some n (p .many) some-there in
-        record { left = keeps-rest; rows = rw (e, f, a) (row-first (fieldOf builtin (heldBy h ++ take lacking piece) 0 l) (fieldsIn builtin l (n - 1) (drop lacking piece)) rows) }
+        let b = some-left builtin l (heldBy h) piece lacking lacks some n (p .many) some-there in
+        let d = field-padded builtin l 13 run (width-low l) (first-whole builtin l (heldBy h) piece lacking lacks some n (p .many) some-there) in
+        record {
+          left = keeps-short (drop end piece) (length piece - end) (sym (length-drop end piece)) (last-within .1) ∙ ap keeps (sym b);
+          rows = rw (e, f, d, a) (row-first (fieldOf builtin run 0 l) (fieldsIn builtin l (n - 1) (drop lacking piece)) rows);
+        }

@@ -9,14 +9,14 @@ use lib.ListN.{length, getD, take, drop, length-append, length-drop, take-append
 use lib.Seq.{take-append-le, drop-append-le, drop-drop, drop-append-add, length-take-le, getD-at}
 use Rattle.base.specs.Outcome.{Outcome, refused}
 use Rattle.scale.specs.Time.{Time}
-use Rattle.octets.specs.Stores.{pasted}
-use Rattle.octets.proofs.Pastes.{paste-first, paste-append}
 use Rattle.octets.proofs.Moved.{Same}
 use Rattle.leap.specs.Table.{Table}
 use Rattle.pfield.specs.declared.Layout.{Layout}
 use Rattle.codes.specs.Reading.{fieldOf, widthOf}
 use Rattle.codes.proofs.Fields.{field-moved}
 use Rattle.receiver.specs.Fields.{fieldsIn, wholeIn, answersIn, leftIn}
+use Rattle.receiver.specs.Inner.{padded}
+use Rattle.receiver.proofs.Pads.{length-padded, padded-front}
 
 module _ (t : Table) (l : Layout) where
   -- ---- one T-field
@@ -29,13 +29,10 @@ module _ (t : Table) (l : Layout) where
   pub field-at : (s : List ℕ) (at : ℕ) → at + widthOf l ≤ length s → fieldOf t s at l ≡ fieldOf t (drop at s) 0 l
   field-at s at h = field-moved t s (drop at s) at 0 l (record { here = h; there = omega (arith, length-drop at s); alike = refl })
 
-  -- one that was put together from two parts
-  pub field-joined : (zeros held part : List ℕ) → length held + length part ≡ widthOf l → widthOf l ≤ length zeros → fieldOf t (pasted (pasted zeros 0 held) (length held) part) 0 l ≡ fieldOf t (held ++ part) 0 l
-  field-joined zeros held part e h =
-      let whole = held ++ part in
-      let n : length whole ≡ widthOf l = length-append held part ∙ e in
-      ap (λ (s : List ℕ). fieldOf t s 0 l) (paste-append zeros 0 (length held) held part (sym (zero-add (length held))) (omega arith) ∙ paste-first zeros whole)
-      ∙ field-first whole (drop (length whole) zeros) (omega arith)
+  -- nor do zeros in the place of what follows
+  pub field-padded : (n : ℕ) (s : List ℕ) → widthOf l ≤ n → widthOf l ≤ length s → fieldOf t (padded n s) 0 l ≡ fieldOf t s 0 l
+  field-padded n s h k =
+      field-moved t (padded n s) s 0 0 l (record { here = omega (arith, length-padded n s); there = omega arith; alike = padded-front n s (widthOf l) h k })
 
   -- ---- T-fields one after another
   pub length-fields : (n : ℕ) (s : List ℕ) → length (fieldsIn t l n s) ≡ n
@@ -90,8 +87,8 @@ module _ (t : Table) (l : Layout) (held piece : List ℕ) (lacking : ℕ) (e : l
     counts : n * widthOf l ≡ widthOf l + (n - 1) * widthOf l
     counts = let k : n ≡ suc (n - 1) = omega arith in ap (λ (x : ℕ). x * widthOf l) k ∙ omega (arith, suc-mul (n - 1) (widthOf l))
 
-    pub completed-within : lacking ≤ length piece
-    completed-within = omega (arith, bounds, counts)
+    pub first-whole : widthOf l ≤ length (held ++ piece)
+    first-whole = omega (arith, bounds, counts, length-append held piece)
 
     -- less than a T-field follows them
     pub ends-within : (lacking + (n - 1) * widthOf l ≤ length piece) × (length piece < lacking + (n - 1) * widthOf l + widthOf l)
@@ -102,17 +99,12 @@ module _ (t : Table) (l : Layout) (held piece : List ℕ) (lacking : ℕ) (e : l
         let i : widthOf l + k ≡ length held + (lacking + k) = omega arith in
         ap (λ (x : ℕ). drop x (held ++ piece)) i ∙ drop-append-add held piece (lacking + k)
 
-    first : fieldOf t (held ++ piece) 0 l ≡ fieldOf t (held ++ take lacking piece) 0 l
-    first =
-        ap (λ (x : List ℕ). fieldOf t x 0 l) (ap (λ (x : List ℕ). held ++ x) (sym (take-append-drop lacking piece)) ∙ sym (append-assoc held (take lacking piece) (drop lacking piece)))
-        ∙ field-first t l (held ++ take lacking piece) (drop lacking piece) (omega (arith, length-append held (take lacking piece), length-take-le lacking piece completed-within))
-
-    pub some-answered : answersIn t l (held ++ piece) ≡ fieldOf t (held ++ take lacking piece) 0 l ∷ fieldsIn t l (n - 1) (drop lacking piece)
+    pub some-answered : answersIn t l (held ++ piece) ≡ fieldOf t (held ++ piece) 0 l ∷ fieldsIn t l (n - 1) (drop lacking piece)
     unfolding answersIn fieldsIn
     some-answered =
         let b : drop (widthOf l) (held ++ piece) ≡ drop lacking piece = simp add-zero at (behind 0) in
         let k : wholeIn l (held ++ piece) ≡ suc (n - 1) = omega arith in
-        rw (k, first, b)
+        rw (k, b)
 
     pub some-left : leftIn l (held ++ piece) ≡ drop (lacking + (n - 1) * widthOf l) piece
     unfolding leftIn

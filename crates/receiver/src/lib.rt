@@ -8,15 +8,14 @@ use scale::RecordAnswer;
 ghost use mathlib.Core.Path.{_≡_};
 ghost use mathlib.Core.List.{[], _++_};
 ghost use Prim.Native.Nat.{_+_, _*_, _/_, _≤_, _<_};
-ghost use lib.ListN.{length, take, drop};
-ghost use Rattle.octets.specs.Stores.{pasted};
+ghost use lib.ListN.{length, take, drop, getD};
 ghost use Rattle.leap.specs.Builtin.{builtin};
 ghost use Rattle.pfield.specs.Answers.{saysLayout};
 ghost use Rattle.codes.specs.Reading.{fieldOf, widthOf};
 ghost use Rattle.receiver.specs.Fields.{fieldsIn};
 ghost use Rattle.receiver.specs.Receiver.{holding, allZero, madeOf, layoutOf, feedOf};
 ghost use Rattle.receiver.specs.Answers.{rowOf, rowsOver, Feeds, Makes};
-ghost use Rattle.receiver.specs.Inner.{heldBy, Passes, Passed};
+ghost use Rattle.receiver.specs.Inner.{padded, heldBy, Passes, Passed};
 
 // The first count octets of pending are those of an unfinished T-field, and the others are 0. The longest T-field has one
 // octet more than there is room for.
@@ -153,21 +152,25 @@ fn pass(l: Layout, n: usize, held: Held, piece: &[u8], rows: &mut [[i64; 3]]) ->
 {
     let count = held.count;
     let bytes = held.bytes;
+    let run = joined(bytes, count, piece);
     if n == 0 {
-        let longer = appended(bytes, count, piece);
+        let longer = narrowed(run);
+        let more = count + piece.len();
         return Held {
             bytes: longer,
-            count: count + piece.len(),
+            count: more,
         };
     }
-    let lacking = codes::size(l) - count;
-    let first = completed(bytes, count, &piece[..lacking], l);
+    let first = row_at(&run, 0, l);
     rows[0] = first;
+    let lacking = codes::size(l) - count;
     let end = go_on(piece, lacking, l, &mut rows[1..], n - 1);
-    let left = appended([0u8; 12], 0, &piece[end..]);
+    let rest = joined([0u8; 12], 0, &piece[end..]);
+    let left = narrowed(rest);
+    let over = piece.len() - end;
     Held {
         bytes: left,
-        count: piece.len() - end,
+        count: over,
     }
 }
 
@@ -188,25 +191,44 @@ fn row_at(s: &[u8], at: usize, l: Layout) -> [i64; 3]
     }
 }
 
-// Pending octets with more behind them.
-fn appended(pending: [u8; 12], count: usize, part: &[u8]) -> [u8; 12]
-    requires { ⌜ count + length (now part) ≤ 12 ⌝ }
-    ensures { λ r. ⌜ r ≡ pasted pending count (now (part .entry)) ⌝ }
+// The first 13 octets of a run, which are held and then in a piece, with zeros behind its end: a whole T-field, where it
+// has one.
+fn joined(bytes: [u8; 12], count: usize, piece: &[u8]) -> [u8; 13]
+    requires { ⌜ count ≤ 12 ⌝ }
+    ensures { λ r. ⌜ r ≡ padded 13 (take count bytes ++ now (piece .entry)) ⌝ }
 {
-    let mut longer = pending;
-    octets::put(&mut longer, count, part);
-    longer
+    let mut run = [0u8; 13];
+    let mut i = 0;
+    while i < 13 {
+        run[i] = octet_at(bytes, count, piece, i);
+        i += 1;
+    }
+    run
 }
 
-// The row of the T-field that pending octets and the part that they lack make up.
-fn completed(pending: [u8; 12], count: usize, part: &[u8], l: Layout) -> [i64; 3]
-    requires { ⌜ (count ≤ 12) × (count + length (now part) ≡ widthOf l) ⌝ }
-    ensures { λ r. ⌜ r ≡ rowOf (fieldOf builtin (take count pending ++ now (part .entry)) 0 l) ⌝ }
+// The octet of a run at a place, or 0 past its end.
+fn octet_at(bytes: [u8; 12], count: usize, piece: &[u8], i: usize) -> u8
+    requires { ⌜ count ≤ 12 ⌝ }
+    ensures { λ r. ⌜ r ≡ getD (take count bytes ++ now (piece .entry)) i 0 ⌝ }
 {
-    let mut field = [0u8; 13];
-    octets::put(&mut field, 0, &pending[..count]);
-    octets::put(&mut field, count, part);
-    row_at(&field, 0, l)
+    if i < count {
+        return bytes[i];
+    }
+    let at = i - count;
+    if at < piece.len() { piece[at] } else { 0 }
+}
+
+// The first 12 octets of 13.
+fn narrowed(run: [u8; 13]) -> [u8; 12]
+    ensures { λ r. ⌜ r ≡ padded 12 run ⌝ }
+{
+    let mut bytes = [0u8; 12];
+    let mut i = 0;
+    while i < 12 {
+        bytes[i] = run[i];
+        i += 1;
+    }
+    bytes
 }
 
 // The n T-fields of a piece from a place on, each into its row; and where they end.

@@ -1,6 +1,5 @@
 -- `honigzange::receivers::state_of` meets its contract: each part is put in behind the one before it.
-use mathlib.Core.Path.{_≡_, ap}
-use Prim.Native.Nat.{ℕ}
+use mathlib.Core.Path.{_≡_}
 use lib.ListN.{length}
 use mir.Syntax.{w64}
 use mir.Val.{toZ, ofZ}
@@ -33,25 +32,18 @@ cast-state c = search needs
 array-write-state-2 : tie.Need-array-write-state-2
 array-write-state-2 c = search needs
 
-slice-aggregate-put : tie.Need-slice-aggregate-put
-slice-aggregate-put c = search needs
-
-slice-aggregate-put-2 : tie.Need-slice-aggregate-put-2
-slice-aggregate-put-2 c = search needs
-
-put-requires : tie.Need-put-requires
-put-requires c κs = search needs
+with-pending-requires : tie.Need-with-pending-requires
+with-pending-requires c κs = search needs
 
 returns : tie.Need-returns
 returns c =
-    let p = c .before in
-    let q = p .before .before .before .before .before in
+    let q = c .before .before .before in
     let u = q .before in
     let s = u .before .before .before .before .before in
     let r = s .args .r in
     let e : toZ w64 (ofZ w64 (r .epoch)) ≡ r .epoch = search needs in
     let b : u .unsigned .result ≡ bitsOf (r .epoch) = rw e at (u .unsigned .ensures) in
-    put-in (r .p .octet) (r .count) (octets 8 (bitsOf (r .epoch))) (r .pending) _ _ _ _ (length-places 256 octetOf 8 (bitsOf (r .epoch))) (size s) (rw b at (q .put-count .ensures)) (p .put .ensures)
+    put-in (r .p .octet) (r .count) (octets 8 (bitsOf (r .epoch))) (r .pending) _ _ _ (length-places 256 octetOf 8 (bitsOf (r .epoch))) (size s) (rw b at (q .put-count .ensures)) (c .with-pending .ensures)
 
 pub state-of-spec : {M : Type 1} → statement M
 state-of-spec =
@@ -63,7 +55,5 @@ state-of-spec =
     put-count-requires
     cast-state
     array-write-state-2
-    slice-aggregate-put
-    slice-aggregate-put-2
-    put-requires
+    with-pending-requires
     returns)

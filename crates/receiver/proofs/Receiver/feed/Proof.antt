@@ -59,7 +59,7 @@ pass-requires c κs =
     let e = c .before in
     let k = e .before .before .before .before .before in
     let g = good (k .before .before .before .before .args .self) (k .l .given .0 .0) (gave k) in
-    record { few = g .few; clear = g .clear; many = many (e .before); room = e .if1 .left }
+    record { few = g .few; many = many (e .before); room = e .if1 .left }
 
 returns-2 : tie.Need-returns-2
 returns-2 c =

@@ -1,16 +1,12 @@
 -- Octets put into others one by one.
 use mathlib.Core.Path.{_≡_, sym, ap, _∙_}
-use mathlib.Core.Bool.{true, false}
 use mathlib.Core.List.{List, _++_}
 use Prim.Native.Nat.{ℕ, _+_, _<_, _≤_}
 use native.Mathlib.Numerals.{add-one}
 use native.Mathlib.Omega.{arith}
 use lib.ListN.{length, take, drop, set, getD}
 use lib.Seq.{paste, paste-zero, paste-suc, length-paste, take-length}
-use borrow.Author.Tests.{leb-true, leb-false}
-use lib.Dec.{leb}
-use Rattle.octets.specs.Stores.{pasted, Stored}
-use Rattle.octets.proofs.Pastes as P
+use Rattle.octets.specs.Stores.{pasted}
 
 -- the first i of them are put in
 pub record Put (old : List ℕ) (at : ℕ) (part new : List ℕ) (i : ℕ) : Type 0 where
@@ -18,12 +14,8 @@ pub record Put (old : List ℕ) (at : ℕ) (part new : List ℕ) (i : ℕ) : Typ
   pub within : i ≤ length part
   pub is : new ≡ paste old at part i
 
-module _ (old : List ℕ) (at : ℕ) (part : List ℕ) where
-  pub starts : leb (at + length part) (length old) ≡ true → Put old at part old 0
-  starts h = record { room = leb-true _ _ h; within = omega arith; is = paste-zero old at part }
-
-  pub no-room : leb (at + length part) (length old) ≡ false → Stored part at old old false
-  no-room h = P.stays part old at (leb-false _ _ h)
+pub starts : (old : List ℕ) (at : ℕ) (part : List ℕ) → at + length part ≤ length old → Put old at part old 0
+starts old at part h = record { room = h; within = omega arith; is = paste-zero old at part }
 
 module _ {old : List ℕ} {at : ℕ} {part new : List ℕ} {i : ℕ} (p : Put old at part new i) where
   pub same-size : length new ≡ length old
@@ -38,11 +30,8 @@ module _ {old : List ℕ} {at : ℕ} {part new : List ℕ} {i : ℕ} (p : Put ol
         ∙ ap (paste old at part) (sym (add-one i));
   }
 
-  whole : length part ≤ i → new ≡ pasted old at part
+  pub ends : length part ≤ i → new ≡ pasted old at part
   unfolding pasted
-  whole h =
+  ends h =
       let e : i ≡ length part = omega (arith, p .within) in
       p .is ∙ rw (e, take-length part)
-
-  pub ends : length part ≤ i → Stored part at old new true
-  ends h = P.stores (p .room) (whole h)
