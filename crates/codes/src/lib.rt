@@ -121,7 +121,11 @@ fn field(s: &[u8], at: usize, l: Layout) -> ScanAnswer
     requires { ⌜ at ≤ 1 ⌝ }
     ensures { λ r. ⌜ saysScan r ≡ scanIn builtin (now (s .entry)) at l ⌝ }
 {
-    ended(read_field(s, at, l), at + size(l))
+    match l {
+        Layout::Cuc(c) => ended(cuc::read(s, at, c), at + cuc::size(c)),
+        Layout::Cds(d) => ended(utc::timed(cds::read(s, at, d)), at + cds::size(d)),
+        Layout::Ccs(c) => ended(utc::timed(ccs::read(s, at, c)), at + ccs::size(c)),
+    }
 }
 
 fn ended(a: RecordAnswer, end: usize) -> ScanAnswer
