@@ -1,11 +1,10 @@
 -- A T-field is read from its own octets alone, wherever they stand.
-use mathlib.Core.Path.{_≡_, refl, ap, _∙_}
+use mathlib.Core.Path.{_≡_, refl}
 use mathlib.Core.Bool.{Bool, true, false}
 use mathlib.Core.List.{List}
 use Prim.Native.Nat.{ℕ, _+_, _≤_}
 use native.Mathlib.Omega.{arith}
 use borrow.Author.Tests.{le-leb, leb-true}
-use lib.Dec.{leb}
 use lib.ListN.{length}
 use Rattle.octets.specs.Places.{bcdValue, bcdGood}
 use Rattle.octets.proofs.Moved.{Same, first-same, part-same, count-moved}

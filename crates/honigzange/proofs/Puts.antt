@@ -1,10 +1,10 @@
 -- Octets put into others one by one.
 use mathlib.Core.Path.{_≡_, sym, ap, _∙_}
-use mathlib.Core.List.{List, _++_}
+use mathlib.Core.List.{List}
 use Prim.Native.Nat.{ℕ, _+_, _<_, _≤_}
 use native.Mathlib.Numerals.{add-one}
 use native.Mathlib.Omega.{arith}
-use lib.ListN.{length, take, drop, set, getD}
+use lib.ListN.{length, set, getD}
 use lib.Seq.{paste, paste-zero, paste-suc, length-paste, take-length}
 use Rattle.octets.specs.Stores.{pasted}
 

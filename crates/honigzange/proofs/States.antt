@@ -1,12 +1,12 @@
 -- A receiver in its octets, and back.
 use mathlib.Core.Path.{_≡_, refl, sym, ap, _∙_}
-use mathlib.Core.Bool.{Bool, true}
+use mathlib.Core.Bool.{Bool}
 use mathlib.Core.List.{List, [], _∷_, _++_, append-assoc, append-nil}
-use Prim.Native.Nat.{ℕ, _+_, _-_, _^_, _<_, _≤_}
+use Prim.Native.Nat.{ℕ, _^_, _<_, _≤_}
 use native.Mathlib.Omega.{arith}
 use lib.Dec.{lit<, lit≤}
 use lib.IntN.{ℤ, pos, negsuc}
-use lib.ListN.{length, getD, take, drop, set, replicate, length-append, length-set, length-drop}
+use lib.ListN.{length, getD, drop, set, replicate, length-append, length-set}
 use lib.Seq.{drop-drop, drop-at, getD-at}
 use Rattle.base.specs.Parts.{plus, minus, bitsOf, signedOf}
 use Rattle.base.proofs.Signed.{signed-bits}

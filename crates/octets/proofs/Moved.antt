@@ -1,17 +1,14 @@
 -- A run of elements is read from these alone, wherever they stand.
-use mathlib.Core.Path.{_≡_, refl, sym, ap, _∙_}
-use mathlib.Core.Bool.{Bool, true, cond, _&&_}
-use mathlib.Core.List.{List, _++_}
+use mathlib.Core.Path.{_≡_, sym, ap, _∙_}
+use mathlib.Core.Bool.{Bool}
+use mathlib.Core.List.{List}
 use Prim.Native.Nat.{ℕ, _+_, _-_, _≤_}
 use native.Mathlib.Omega.{arith}
 use borrow.Author.Tests.{le-leb}
-use lib.Dec.{leb}
 use lib.ListN.{length, take, drop, length-drop, take-append-drop}
 use lib.Seq.{take-take, take-append-le, drop-append-le, drop-drop, length-take-le}
 use Rattle.octets.specs.Places.{number, allGood}
 use Rattle.octets.specs.Counts.{countOf}
-use Rattle.octets.specs.declared.Counted.{Counted}
-use Rattle.octets.specs.declared.Counted.the-variants.{Done, Bad, Out}
 use Rattle.octets.proofs.Places.{number-take, good-take}
 
 -- the w elements from `at` on in s are those from `to` on in u

@@ -6,6 +6,7 @@ pub mod RungsAscii
 pub mod RungsFields
 pub mod RungsBinary
 pub mod RungsTags
+pub mod RungsReceiver
 pub mod RungsCalls
 pub mod Settings
 pub mod Ranges

@@ -1,12 +1,12 @@
 -- THE PROMISES: the user's demands, for every call, every code and every setting, over the definitions that the contracts of the C interface cite: by any table that reckons, as the built-in one does. Each cites what the crates below have proved.
 use mathlib.Core.Path.{_≡_, refl, sym, ap, _∙_}
-use mathlib.Core.Bool.{Bool, true}
+use mathlib.Core.Bool.{Bool, true, false}
 use mathlib.Core.List.{List}
 use mathlib.Core.Logic.{_⊎_, _↔_}
-use Prim.Native.Nat.{ℕ, _-_, _≤_}
+use Prim.Native.Nat.{ℕ, _*_, _-_, _≤_, _<_}
 use native.Mathlib.Nat.{zero-add}
 use lib.IntN.{ℤ, pos, _+ℤ_}
-use lib.ListN.{length, take, drop}
+use lib.ListN.{length, getD, take, drop}
 use lib.Seq.{take-at, drop-at}
 use Rattle.base.specs.Outcome.{Outcome, done, refused, given, status, cell}
 use Rattle.base.proofs.Ladders.{done-is}
@@ -28,7 +28,7 @@ use Rattle.ascii.specs.declared.Layout.{Layout}
 use Rattle.pfield.specs.PField.{laid}
 use Rattle.pfield.specs.declared.PField.{PField}
 use Rattle.pfield.specs.declared.Codes.the-variants.{All}
-use Rattle.codes.specs.Reading.{scanOf, usedOf}
+use Rattle.codes.specs.Reading.{Scanned, scanned, scanOf, usedOf, widthOf}
 use Rattle.codes.specs.Range.{HoldsIn}
 use Rattle.codes.specs.Writing.{writeOf}
 use Rattle.codes.specs.Setting.{asciiOf, written, defaultLayout, wallOf}
@@ -36,6 +36,11 @@ use Rattle.pfield.specs.declared.Preamble.{Preamble}
 use Rattle.pfield.specs.declared.Layout as P
 use Rattle.codes.specs.declared.setting.Setting.{Setting}
 use Rattle.codes.specs.declared.setting.Setting.the-variants.{Binary, Ascii}
+use Rattle.receiver.specs.Fields.{wholeIn, answersIn}
+use Rattle.receiver.specs.Receiver.{Fate, nextOf}
+use Rattle.receiver.specs.Answers.{rowsAfter}
+use Rattle.receiver.specs.declared.Receiver.{Receiver}
+use Rattle.receiver.proofs.Promises.{as-read}
 use Rattle.window.specs.Among.{Among}
 use Rattle.window.specs.Window.{Listed, Named, listed, leaves}
 use Rattle.promises.specs.Promises.{Call, outcomeOf, Done, Refused, lastNumber, readUnder, codeIn, OfSetting, Holdable, Yields, Ready, Holds, FitsIn, Outside, second, Shows, SecondApart, Shortened, listBy, Lists}
@@ -68,9 +73,13 @@ refused-leaves-bytes o n h at out = rw h
 pub refused-leaves-list : {B : Type 0} (o : Outcome (Named ℤ)) (n : ℕ) → o ≡ refused n → (entry : List ℤ) (f : Listed → B) (old : B) → (leaves o entry ≡ entry) × (cell f (given (listed entry) o) old ≡ old)
 refused-leaves-list o n h entry f old = rw h (refl, refl)
 
--- .. and the two cells of a rate
+-- .. the two cells of a rate ..
 pub refused-leaves-rate : (o : Outcome Fraction) (n : ℕ) → o ≡ refused n → (old new : Fraction) → Lowered o old new → new ≡ old
 refused-leaves-rate o n h old new l = rw h at l
+
+-- .. and a receiver with its rows: "with state and memory unchanged"
+pub refused-leaves-receiver : (o : Outcome Fate) (n : ℕ) → o ≡ refused n → (r : Receiver) (rows : List (List ℤ)) → (nextOf r o ≡ r) × (rowsAfter o rows ≡ rows)
+refused-leaves-receiver o n h r rows = rw h (refl, refl)
 
 -- "a refused binary read hands back all its bytes as unread"
 pub refused-reads-none : (t : Table) (s : List ℕ) (p : Preamble) (e : ℤ) (n : ℕ) → scanOf t s p e ≡ refused n → (usedOf (scanOf t s p e) ≡ 0) × (drop (usedOf (scanOf t s p e)) s ≡ s)
@@ -99,6 +108,11 @@ module _ (t : Table) (g : reckons t ≡ true) where
   -- what is read is a valid source
   pub read-valid : (setting : Setting) (s : List ℕ) (m : Time) → readUnder t setting s ≡ done m → isRecord m ≡ true
   read-valid = S.valid-read t g
+
+  -- .. and so is what a receiver answers, where it answers no refusal
+  pub answers-valid : (p : PField) (e : ℤ) (l : P.Layout) → laid All p e ≡ done l → (s : List ℕ) (i : ℕ) → i < wholeIn l s → (m : Time) → getD (answersIn t l s) i (refused 0) ≡ done m → isRecord m ≡ true
+  answers-valid p e l a s i h m x =
+      read-valid (Binary p e false) (drop (i * widthOf l) s) m (ap (given (λ (y : Scanned). y .moment)) (as-read t p e l a s i h ∙ ap (given (scanned (widthOf l))) x))
 
   -- .. and in all codes, be it one or two of them: whatever reads to times that show them
   pub codes-second-apart : (setting setting' : Setting) (s s' : List ℕ) (m m' : Time) (day : ℤ) → readUnder t setting s ≡ done m → readUnder t setting' s' ≡ done m' → Shows t m day 86400 → Shows t m' (day +ℤ pos 1) 0 → m' .ticks ≡ m .ticks → differenceOf m' m ≡ done second

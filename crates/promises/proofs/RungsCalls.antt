@@ -20,8 +20,11 @@ use Rattle.codes.specs.Setting.{asciiOf, wallOf}
 use Rattle.pfield.specs.PField.{octet}
 use Rattle.pfield.specs.declared.PField.{PField}
 use Rattle.pfield.specs.declared.Preamble.{Preamble}
+use Rattle.pfield.specs.declared.Layout as Laid
 use Rattle.listing.specs.CucTag.{listCuc}
 use Rattle.listing.specs.AsciiTag.{listAscii}
+use Rattle.receiver.specs.Receiver.{madeOf, feedOf}
+use Rattle.receiver.specs.declared.Receiver.{Receiver}
 use Rattle.promises.specs.Promises as P
 use Rattle.promises.specs.Rungs.{Rung, numbered, Exactly}
 use Rattle.promises.specs.RungsScale.{differenceRungs, shiftRungs}
@@ -30,6 +33,7 @@ use Rattle.promises.specs.RungsCalendar.{dayOfDateRungs, dayOfOrdinalRun
 use Rattle.promises.specs.RungsAscii.{readAsciiRungs, writeAsciiRungs, writeWallRungs}
 use Rattle.promises.specs.RungsBinary.{readBinaryRungs, writeBinaryRungs}
 use Rattle.promises.specs.RungsTags.{listCucRungs, listAsciiRungs}
+use Rattle.promises.specs.RungsReceiver.{receiverMakeRungs, receiveRungs, answerRungs}
 use Rattle.promises.specs.RungsCalls.{rungsOf}
 use Rattle.promises.proofs.Rungs.{by-rungs}
 use Rattle.promises.proofs.RungsScale.{difference-rungs, shift-rungs}
@@ -38,6 +42,7 @@ use Rattle.promises.proofs.RungsCalendar.{day-of-date-rungs, day-of-ord
 use Rattle.promises.proofs.RungsAscii.{read-ascii-rungs, write-ascii-rungs, write-wall-rungs}
 use Rattle.promises.proofs.RungsBinary.{read-binary-rungs, write-binary-rungs}
 use Rattle.promises.proofs.RungsTags.{list-cuc-rungs, list-ascii-rungs}
+use Rattle.promises.proofs.RungsReceiver.{receiver-make-rungs, receive-rungs}
 
 -- ---- the order of the numbers is document 01's: "when reading: missing P 1, then 2, 3, epoch 7 .., short T 1, 4, 5, 6. Writing: record 7, then 2, 3, epoch 7, cover 5 .., target 7, room 8 .. Listing: the tag as in reading up to 4, then records 7, 9, cover 5"
 abbrev numbers : List Rung → List ℕ
@@ -55,6 +60,10 @@ listing-order t s p e from to = (refl, refl)
 -- document 02, request 1: "Refused in this order: an invalid record 7, one off the 2^-24 s grid new 11, an elapsed time of 2^32 s or more in size 7, ground elapsed zero or negative new 10"
 pub rate-order : (p q : Pair) → numbers (rateRungs p q) ≡ 7 ∷ 11 ∷ 7 ∷ 10 ∷ []
 rate-order p q = refl
+
+-- document 02, request 2: "Its making refuses a bad P-field or epoch as 01 does", so does a call with its state, which is then judged, 7; "Too little room .. is 8". And each answer is a record, 4, 5 or 6: never 1
+pub receiving-order : (t : Table) (r : Receiver) (piece : List ℕ) (room : ℕ) (o : ℕ) (e : ℤ) (l : Laid.Layout) → (numbers (receiverMakeRungs o e) ≡ 2 ∷ 3 ∷ 7 ∷ []) × (numbers (receiveRungs r piece room) ≡ 2 ∷ 3 ∷ 7 ∷ 7 ∷ 7 ∷ 8 ∷ []) × (numbers (answerRungs t piece l) ≡ 4 ∷ 5 ∷ 6 ∷ [])
+receiving-order t r piece room o e l = (refl, refl, refl)
 
 -- ---- records and spans
 pub difference : (a b : Time) → Exactly (differenceOf a b) (differenceRungs a b)
@@ -113,6 +122,13 @@ rate p q = by-rungs (quotientOf p q) (rateRungs p q) (rate-rungs p q)
 pub rates : (run : List Pair) → Exactly (done (reportOf run)) (ratesRungs run)
 rates run = by-rungs (done (reportOf run)) (ratesRungs run) (rates-rungs run)
 
+-- ---- a receiver
+pub receiver-make : (p : PField) (e : ℤ) → Exactly (madeOf p e) (receiverMakeRungs (p .octet) e)
+receiver-make p e = by-rungs (madeOf p e) (receiverMakeRungs (p .octet) e) (receiver-make-rungs p e)
+
+pub receive : (t : Table) (r : Receiver) (piece : List ℕ) (room : ℕ) → Exactly (feedOf t r piece room) (receiveRungs r piece room)
+receive t r piece room = by-rungs (feedOf t r piece room) (receiveRungs r piece room) (receive-rungs t r piece room)
+
 -- ---- all calls at once
 module _ (t : Table) (g : reckons t ≡ true) where
   -- each is refused exactly by its rungs ..
@@ -134,6 +150,8 @@ module _ (t : Table) (g : reckons t ≡ true) where
   calls-exactly (P.listAscii s since before) = list-ascii t s since before
   calls-exactly (P.rate p q) = rate p q
   calls-exactly (P.rates run) = rates run
+  calls-exactly (P.receiverMake p e) = receiver-make (octet p) e
+  calls-exactly (P.receive r piece room) = receive t r piece room
 
 -- .. whose numbers are among those that there are
 pub calls-numbered : (t : Table) (c : P.Call) → numbered (rungsOf t c) ≡ true
@@ -154,3 +172,5 @@ calls-numbered t (P.listCuc s front p e since before) = refl
 calls-numbered t (P.listAscii s since before) = refl
 calls-numbered t (P.rate p q) = refl
 calls-numbered t (P.rates run) = refl
+calls-numbered t (P.receiverMake p e) = refl
+calls-numbered t (P.receive r piece room) = refl

@@ -2,7 +2,7 @@
 use mathlib.Core.Path.{_≡_, refl}
 use mathlib.Core.Bool.{Bool, true, false, _&&_}
 use mathlib.Core.List.{List, [], _∷_, map}
-use Prim.Native.Nat.{ℕ}
+use Prim.Native.Nat.{ℕ, _-_, _^_}
 use lib.Dec.{lit≤}
 use lib.IntN.{ℤ, pos, negsuc}
 use lib.ListN.{replicate}
@@ -37,6 +37,8 @@ use Rattle.codes.specs.Setting.{written}
 use Rattle.codes.specs.declared.setting.Setting.{Setting}
 use Rattle.codes.specs.declared.setting.Setting.the-variants.{Binary, Ascii}
 use Rattle.pfield.specs.declared.Preamble.the-variants.{Front}
+use Rattle.receiver.specs.Receiver.{holding, isState, layoutOf, feedOf}
+use Rattle.receiver.specs.declared.Receiver.{Receiver}
 use Rattle.window.specs.Among.{Among, here}
 use Rattle.window.specs.Seconds.{firstSecond}
 use Rattle.window.specs.Window.{listed, namedIn, filter, consIf, range, up}
@@ -165,6 +167,10 @@ sixties = refl
 abbrev pair : ℤ → ℕ → ℤ → ℕ → Pair
 pair s k u l = record { onboard = time s k; ground = time u l }
 
+-- four octets of a CDS T-field
+abbrev cut : Receiver
+cut = holding (octet 0x40) (pos 0) (0x54 ∷ 0x2d ∷ 0x05 ∷ 0x26 ∷ [])
+
 abbrev answers : List Call → List ℕ
 answers = map (λ (c : Call). status (outcomeOf builtin c))
 
@@ -175,9 +181,10 @@ results : answers
     (P.difference leap early ∷ P.shift early (time (negsuc 0) 5) ∷ P.dayOfDate 2024 2 29 ∷ P.dateOfDay (pos 0) ∷ P.dayOfOrdinal 2024 366 ∷ P.ordinalOfDay (negsuc 714778) ∷ P.utcOfSecond (pos 1861920036) ∷ P.secondOfUtc (pos 21549) 86400
     ∷ P.readBinary (0x1c ∷ 0x6e ∷ 0xfa ∷ 0xa5 ∷ 0x24 ∷ []) true 0 (pos 0) ∷ P.writeBinary leap true 0x1c (pos 0) room ∷ P.readAscii (bytes "2016-12-31T23:59:60") ∷ P.writeAscii leap (layout 12) room ∷ P.writeWall leap room
     ∷ P.listCuc (16 ∷ 0 ∷ []) true 0 (pos 0) (time (pos 0) 0) (time (pos 9) 0) ∷ P.listAscii (bytes "::60") leap leap
-    ∷ P.rate (pair (pos 0) 0 (pos 0) 0) (pair (negsuc 0) 0 (pos 2) 0) ∷ P.rates [] ∷ [])
-    ≡ replicate 17 0
-unfolding quotientOf good within allows laid laidAs cucLaid cdsLaid ccsLaid headedOf scanIn scanOf writeOf roomed countOf U.isWidth U.width U.field U.holds U.inOctets U.bytesOf A.width A.layoutOf A.dayAt A.clockAt A.fieldsOf A.text A.dayText A.clockText A.codeText A.bytesOf lettersOf shaped shapeOf codeShapes timeOf momentOf isMoment L.utcOfSecond L.readingOf L.liftedBy L.secondOfUtc L.secondOf readingAt coversSecond dayHolding secondAt covers dayLength start offset builtin kind yearStart yearsTo row monthLength isDate isOrdinal dayIndex ordinalOn dateIn indexOfDate indexOfOrdinal indexOfDay ordinalAt K.tagWith K.tagIn K.periodicOf K.listPeriodic K.listCuc startAt momentsIn firstSecond counted namedIn filter consIf range up calendarAs clockAs unzoned timeIn alone joined formed goodDay goodClock wantOf names dayFits clockFits AsciiTag.covered AsciiTag.listWanted AsciiTag.listAscii days months hours minutes
+    ∷ P.rate (pair (pos 0) 0 (pos 0) 0) (pair (negsuc 0) 0 (pos 2) 0) ∷ P.rates []
+    ∷ P.receiverMake 0x1c (pos (2 ^ 63 - 1)) ∷ P.receive cut (0x5f ∷ 0xe8 ∷ []) 1 ∷ [])
+    ≡ replicate 19 0
+unfolding quotientOf feedOf layoutOf isState D.isWidth D.width good within allows laid laidAs cucLaid cdsLaid ccsLaid headedOf scanIn scanOf writeOf roomed countOf U.isWidth U.width U.field U.holds U.inOctets U.bytesOf A.width A.layoutOf A.dayAt A.clockAt A.fieldsOf A.text A.dayText A.clockText A.codeText A.bytesOf lettersOf shaped shapeOf codeShapes timeOf momentOf isMoment L.utcOfSecond L.readingOf L.liftedBy L.secondOfUtc L.secondOf readingAt coversSecond dayHolding secondAt covers dayLength start offset builtin kind yearStart yearsTo row monthLength isDate isOrdinal dayIndex ordinalOn dateIn indexOfDate indexOfOrdinal indexOfDay ordinalAt K.tagWith K.tagIn K.periodicOf K.listPeriodic K.listCuc startAt momentsIn firstSecond counted namedIn filter consIf range up calendarAs clockAs unzoned timeIn alone joined formed goodDay goodClock wantOf names dayFits clockFits AsciiTag.covered AsciiTag.listWanted AsciiTag.listAscii days months hours minutes
 results = refl
 
 refusals : answers
@@ -185,7 +192,8 @@ refusals : answers
     ∷ P.readBinary (0x1c ∷ 0x6e ∷ []) true 0 (pos 0) ∷ P.writeBinary leap true 0x60 (pos 0) room ∷ P.readAscii (bytes "2016-12-31T12:00:60") ∷ P.writeAscii leap (layout 13) room ∷ P.writeWall leap (7 ∷ [])
     ∷ P.listCuc (16 ∷ 0 ∷ []) true 0 (pos 0) (time (pos 9) 0) (time (pos 0) 0) ∷ P.listAscii (bytes "::60") early leap
     ∷ P.rate (pair (pos 0) 0 (pos 0) 0) (pair (pos 0) 1 (pos 0) 4096000000000000) ∷ P.rate (pair (pos 0) 0 (pos 0) 0) (pair (pos 4294967296) 1 (pos 0) 0)
-    ∷ P.rate (pair (pos 0) 0 (pos 0) 0) (pair (pos 4294967296) 0 (pos 0) 0) ∷ P.rate (pair (pos 0) 0 (pos 0) 0) (pair (pos 1) 0 (pos 0) 0) ∷ [])
-    ≡ 7 ∷ 7 ∷ 4 ∷ 7 ∷ 4 ∷ 7 ∷ 5 ∷ 6 ∷ 1 ∷ 2 ∷ 4 ∷ 3 ∷ 8 ∷ 9 ∷ 5 ∷ 7 ∷ 11 ∷ 7 ∷ 10 ∷ []
-unfolding quotientOf good within allows laid laidAs cucLaid cdsLaid ccsLaid headedOf scanIn scanOf writeOf roomed countOf U.isWidth U.width U.field U.holds U.inOctets U.bytesOf A.width A.layoutOf A.dayAt A.clockAt A.fieldsOf A.text A.dayText A.clockText A.codeText A.bytesOf lettersOf shaped shapeOf codeShapes timeOf momentOf isMoment L.utcOfSecond L.readingOf L.liftedBy L.secondOfUtc L.secondOf readingAt coversSecond dayHolding secondAt covers dayLength start offset builtin kind yearStart yearsTo row monthLength isDate isOrdinal dayIndex ordinalOn dateIn indexOfDate indexOfOrdinal indexOfDay ordinalAt K.tagWith K.tagIn K.periodicOf K.listPeriodic K.listCuc startAt momentsIn firstSecond counted namedIn filter consIf range up calendarAs clockAs unzoned timeIn alone joined formed goodDay goodClock wantOf names dayFits clockFits AsciiTag.covered AsciiTag.listWanted AsciiTag.listAscii days months hours minutes
+    ∷ P.rate (pair (pos 0) 0 (pos 0) 0) (pair (pos 4294967296) 0 (pos 0) 0) ∷ P.rate (pair (pos 0) 0 (pos 0) 0) (pair (pos 1) 0 (pos 0) 0)
+    ∷ P.receiverMake 0x2c (pos (2 ^ 40)) ∷ P.receive cut (0x5f ∷ 0xe8 ∷ []) 0 ∷ [])
+    ≡ 7 ∷ 7 ∷ 4 ∷ 7 ∷ 4 ∷ 7 ∷ 5 ∷ 6 ∷ 1 ∷ 2 ∷ 4 ∷ 3 ∷ 8 ∷ 9 ∷ 5 ∷ 7 ∷ 11 ∷ 7 ∷ 10 ∷ 7 ∷ 8 ∷ []
+unfolding quotientOf feedOf layoutOf isState D.isWidth D.width good within allows laid laidAs cucLaid cdsLaid ccsLaid headedOf scanIn scanOf writeOf roomed countOf U.isWidth U.width U.field U.holds U.inOctets U.bytesOf A.width A.layoutOf A.dayAt A.clockAt A.fieldsOf A.text A.dayText A.clockText A.codeText A.bytesOf lettersOf shaped shapeOf codeShapes timeOf momentOf isMoment L.utcOfSecond L.readingOf L.liftedBy L.secondOfUtc L.secondOf readingAt coversSecond dayHolding secondAt covers dayLength start offset builtin kind yearStart yearsTo row monthLength isDate isOrdinal dayIndex ordinalOn dateIn indexOfDate indexOfOrdinal indexOfDay ordinalAt K.tagWith K.tagIn K.periodicOf K.listPeriodic K.listCuc startAt momentsIn firstSecond counted namedIn filter consIf range up calendarAs clockAs unzoned timeIn alone joined formed goodDay goodClock wantOf names dayFits clockFits AsciiTag.covered AsciiTag.listWanted AsciiTag.listAscii days months hours minutes
 refusals = refl

@@ -7,4 +7,5 @@ pub mod RungsCalendar
 pub mod RungsAscii
 pub mod RungsBinary
 pub mod RungsTags
+pub mod RungsReceiver
 pub mod RungsCalls

@@ -34,6 +34,8 @@ use Rattle.pfield.specs.declared.Layout as P
 use Rattle.pfield.specs.declared.Layout.the-variants.{Cuc, Cds, Ccs}
 use Rattle.codes.specs.declared.setting.Setting.{Setting}
 use Rattle.codes.specs.declared.setting.Setting.the-variants.{Binary, Ascii}
+use Rattle.receiver.specs.Receiver.{madeOf, Fate, feedOf}
+use Rattle.receiver.specs.declared.Receiver.{Receiver}
 use Rattle.window.specs.Among.{Among, Ascending}
 use Rattle.window.specs.Window.{Listed, Named}
 use Rattle.tag.specs.Shortening as A
@@ -62,6 +64,8 @@ pub data Call : Type 0 where
   listAscii : List ℕ → Time → Time → Call
   rate : Pair → Pair → Call
   rates : List Pair → Call
+  receiverMake : ℕ → ℤ → Call
+  receive : Receiver → List ℕ → ℕ → Call
 
 -- what each gives, and its outcome: that of its contract
 abbrev pub Result : Call → Type 0
@@ -83,6 +87,8 @@ Result (listAscii s since before) = Named ℤ
 -- the exact quotient, which is told in lowest terms
 Result (rate p q) = Fraction
 Result (rates run) = Report
+Result (receiverMake p e) = Receiver
+Result (receive r piece room) = Fate
 
 abbrev pub outcomeOf : Table → (c : Call) → Outcome (Result c)
 outcomeOf t (difference a b) = differenceOf a b
@@ -102,6 +108,8 @@ outcomeOf t (listCuc s front p e since before) = C.listCuc s (from front (octet 
 outcomeOf t (listAscii s since before) = T.listAscii t s since before
 outcomeOf t (rate p q) = quotientOf p q
 outcomeOf t (rates run) = done (reportOf run)
+outcomeOf t (receiverMake p e) = madeOf (octet p) e
+outcomeOf t (receive r piece room) = feedOf t r piece room
 
 -- it ends with a result ..
 abbrev pub Done : {A : Type 0} → Outcome A → Type 0

@@ -3,7 +3,7 @@ use mathlib.Core.List.{List}
 use Rattle.leap.specs.Table.{Table}
 use Rattle.pfield.specs.PField.{octet}
 use Rattle.codes.specs.Writing.{from}
-use Rattle.promises.specs.Promises.{Call, difference, shift, dayOfDate, dateOfDay, dayOfOrdinal, ordinalOfDay, utcOfSecond, secondOfUtc, readBinary, writeBinary, readAscii, writeAscii, writeWall, listCuc, listAscii, rate, rates}
+use Rattle.promises.specs.Promises.{Call, difference, shift, dayOfDate, dateOfDay, dayOfOrdinal, ordinalOfDay, utcOfSecond, secondOfUtc, readBinary, writeBinary, readAscii, writeAscii, writeWall, listCuc, listAscii, rate, rates, receiverMake, receive}
 use Rattle.promises.specs.Rungs.{Rung}
 use Rattle.promises.specs.RungsScale.{differenceRungs, shiftRungs}
 use Rattle.promises.specs.RungsDrift.{rateRungs, ratesRungs}
@@ -11,6 +11,7 @@ use Rattle.promises.specs.RungsCalendar.{dayOfDateRungs, dayOfOrdinalRun
 use Rattle.promises.specs.RungsAscii.{readAsciiRungs, writeAsciiRungs, writeWallRungs}
 use Rattle.promises.specs.RungsBinary.{readBinaryRungs, writeBinaryRungs}
 use Rattle.promises.specs.RungsTags.{listCucRungs, listAsciiRungs}
+use Rattle.promises.specs.RungsReceiver.{receiverMakeRungs, receiveRungs}
 
 abbrev pub rungsOf : Table → Call → List Rung
 rungsOf t (difference a b) = differenceRungs a b
@@ -30,3 +31,5 @@ rungsOf t (listCuc s front p e since before) = listCucRungs s (from front (octet
 rungsOf t (listAscii s since before) = listAsciiRungs t s since before
 rungsOf t (rate p q) = rateRungs p q
 rungsOf t (rates run) = ratesRungs run
+rungsOf t (receiverMake p e) = receiverMakeRungs p e
+rungsOf t (receive r piece room) = receiveRungs r piece room

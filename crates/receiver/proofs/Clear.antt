@@ -1,12 +1,11 @@
 -- Zeros looked at one by one.
 use mathlib.Core.Path.{_≡_, refl, sym, ap, _∙_}
-use mathlib.Core.Bool.{Bool, true, false, _&&_}
+use mathlib.Core.Bool.{true, false, _&&_}
 use mathlib.Core.List.{List, [], _∷_}
-use Prim.Native.Nat.{ℕ, zero, suc, _+_, _-_, _<_, _≤_}
+use Prim.Native.Nat.{ℕ, zero, suc, _+_, _<_, _≤_}
 use native.Mathlib.Numerals.{add-one}
-use native.Mathlib.Omega.{arith}
 use lib.Dec.{eqb}
-use lib.ListN.{length, getD, drop, replicate, length-drop, length-replicate, drop-of-length-le}
+use lib.ListN.{length, getD, drop, replicate, drop-of-length-le}
 use lib.Seq.{drop-cons}
 use borrow.Author.Tests.{eq-eqb, ne-eqb, eqb-true}
 use Rattle.base.proofs.Bools.{and-yes, and-no, and-true}
@@ -35,15 +34,3 @@ zeros-are (x ∷ s) h =
 pub zeros-all : (n : ℕ) → allZero (replicate n 0) ≡ true
 zeros-all zero = refl
 zeros-all (suc n) = zeros-all n
-
--- and so are those behind a place
-pub zeros-drop : (k : ℕ) (s : List ℕ) → allZero s ≡ true → allZero (drop k s) ≡ true
-zeros-drop zero s h = h
-zeros-drop (suc k) [] h = refl
-zeros-drop (suc k) (x ∷ s) h = zeros-drop k s (and-true (eqb x 0) (allZero s) h .1)
-
-pub drop-zeros : (k n : ℕ) → drop {A = ℕ} k (replicate n 0) ≡ replicate (n - k) 0
-drop-zeros k n =
-    let d : List ℕ = drop k (replicate n 0) in
-    let m : length d ≡ n - k = length-drop {A = ℕ} k (replicate n 0) ∙ ap (λ (i : ℕ). i - k) (length-replicate {A = ℕ} n 0) in
-    zeros-are d (zeros-drop k (replicate n 0) (zeros-all n)) ∙ ap (λ (i : ℕ). replicate i 0) m

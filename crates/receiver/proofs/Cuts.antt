@@ -1,14 +1,14 @@
 -- A run that is cut in two: its T-fields are those of the first part, and then those of what is left of it with the second.
-use mathlib.Core.Path.{_≡_, refl, sym, ap, _∙_}
+use mathlib.Core.Path.{_≡_, refl, ap, _∙_}
 use mathlib.Core.List.{List, _++_}
-use Prim.Native.Nat.{ℕ, zero, suc, _+_, _*_, _-_, _/_, _<_, _≤_}
-use native.Mathlib.Nat.{zero-mul, suc-mul, add-mul, add-comm, div-add-mod', mod-lt, add-mul-div-right}
+use Prim.Native.Nat.{ℕ, zero, suc, _+_, _*_, _/_, _<_, _≤_}
+use native.Mathlib.Nat.{suc-mul, add-mul, add-comm, div-add-mod', mod-lt, add-mul-div-right}
 use native.Mathlib.Omega.{arith}
 use lib.ListN.{length, drop, length-append, length-drop}
 use lib.Seq.{drop-append-le, drop-drop}
 use Rattle.leap.specs.Table.{Table}
 use Rattle.pfield.specs.declared.Layout.{Layout}
-use Rattle.codes.specs.Reading.{fieldOf, widthOf}
+use Rattle.codes.specs.Reading.{widthOf}
 use lib.Dec.{leb}
 use Rattle.base.specs.Outcome.{done, need}
 use Rattle.base.proofs.Ladders.{then-done, need-done, done-is}

@@ -1,12 +1,12 @@
 -- The first octets of a run, with zeros behind its end.
 use mathlib.Core.Path.{_≡_, refl, sym, ap, _∙_}
-use mathlib.Core.List.{List, [], _∷_, _++_, append-assoc}
-use Prim.Native.Nat.{ℕ, suc, _+_, _-_, _<_, _≤_}
+use mathlib.Core.List.{List, _++_}
+use Prim.Native.Nat.{ℕ, _+_, _-_, _<_, _≤_}
 use native.Mathlib.Decide.{decLt}
 use native.Mathlib.Numerals.{add-one}
 use native.Mathlib.Omega.{arith}
-use lib.ListN.{length, getD, take, drop, set, replicate, length-append, length-set, length-replicate, getD-replicate, replicate-append-replicate, List·getD-append, List·getD-eq-default}
-use lib.Seq.{take-all, take-take, take-suc, take-suc-set, take-append-le, take-append-add, length-take-le, getD-take, getD-append-add, ext-getD}
+use lib.ListN.{length, getD, take, set, replicate, length-append, length-set, length-replicate, getD-replicate, List·getD-append, List·getD-eq-default}
+use lib.Seq.{take-all, take-take, take-suc, take-suc-set, take-append-le, length-take-le, getD-take, getD-append-add, ext-getD}
 use Rattle.receiver.specs.Inner.{padded}
 
 abbrev zeros : ℕ → List ℕ
@@ -34,7 +34,7 @@ module _ (n : ℕ) (s : List ℕ) where
   unfolding padded
   length-padded = length-take-le n (s ++ replicate n 0) (omega (arith, length-append s (replicate n 0), length-replicate {A = ℕ} n 0))
 
-  pub padded-at : (i : ℕ) → i < n → getD (padded n s) i 0 ≡ getD s i 0
+  padded-at : (i : ℕ) → i < n → getD (padded n s) i 0 ≡ getD s i 0
   unfolding padded
   padded-at i h = getD-take n (s ++ replicate n 0) i 0 h ∙ behind s n i
 

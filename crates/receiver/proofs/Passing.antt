@@ -1,18 +1,17 @@
 -- The ways of a piece: it completes no T-field and waits, or it completes some.
-use mathlib.Core.Path.{_≡_, refl, sym, ap, _∙_}
-use mathlib.Core.Bool.{true}
-use mathlib.Core.List.{List, [], _∷_, _++_, append-assoc, append-nil, map}
-use Prim.Native.Nat.{ℕ, zero, suc, _+_, _*_, _-_, _<_, _≤_}
+use mathlib.Core.Path.{_≡_, sym, ap, _∙_}
+use mathlib.Core.List.{List, _∷_, _++_}
+use Prim.Native.Nat.{ℕ, _+_, _*_, _-_, _<_, _≤_}
 use native.Mathlib.Omega.{arith}
 use lib.IntN.{ℤ}
-use lib.ListN.{length, take, drop, set, replicate, length-append, length-drop, length-replicate}
-use lib.Seq.{take-all, drop-length, drop-drop, length-take-le}
+use lib.ListN.{length, drop, replicate, length-append, length-drop}
+use lib.Seq.{length-take-le}
 use lib.Dec.{lit≤}
 use Rattle.leap.specs.Builtin.{builtin}
 use Rattle.pfield.specs.declared.Layout.{Layout}
 use Rattle.codes.specs.Reading.{fieldOf, widthOf}
 use Rattle.codes.proofs.Fields.{width-low}
-use Rattle.receiver.specs.Fields.{fieldsIn, leftIn}
+use Rattle.receiver.specs.Fields.{fieldsIn}
 use Rattle.receiver.specs.Answers.{rowOf, rowsOver}
 use Rattle.receiver.specs.Inner.{padded, heldBy, keeps, Passes, Passed}
 use Rattle.receiver.specs.declared.Held.{Held}

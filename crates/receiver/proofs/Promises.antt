@@ -2,7 +2,7 @@
 use mathlib.Core.Path.{_≡_, refl, sym, ap, _∙_, subst}
 use mathlib.Core.List.{List, [], _∷_, _++_, append-assoc, append-nil}
 use mathlib.Core.Logic.{_↔_}
-use Prim.Native.Nat.{ℕ, suc, _+_, _*_, _-_, _/_, _<_, _≤_}
+use Prim.Native.Nat.{ℕ, suc, _*_, _<_, _≤_}
 use native.Mathlib.Nat.{div-eq-of-lt, zero-add, zero-mul, suc-mul, le-mul-of-pos-right, div-lt-iff-lt-mul}
 use native.Mathlib.Decide.{decLt}
 use native.Mathlib.Omega.{arith}
@@ -10,7 +10,7 @@ use lib.IntN.{ℤ}
 use lib.ListN.{length, getD, drop, length-append}
 use lib.Dec.{leb}
 use Rattle.base.specs.Outcome.{Outcome, done, refused, need, andThen, given}
-use Rattle.base.proofs.Ladders.{given-done, done-is, never, then-done, need-done}
+use Rattle.base.proofs.Ladders.{given-done, done-is, never, need-done}
 use Rattle.scale.specs.Time.{Time}
 use Rattle.leap.specs.Table.{Table}
 use Rattle.pfield.specs.PField.{laid, Headed}
@@ -19,7 +19,7 @@ use Rattle.pfield.specs.declared.Codes.the-variants.{All}
 use Rattle.pfield.specs.declared.Layout.{Layout}
 use Rattle.pfield.specs.declared.Preamble.the-variants.{Given}
 use Rattle.pfield.proofs.Heads.{head-given}
-use Rattle.codes.specs.Reading.{fieldOf, widthOf, scanned, scanIn, scanOf}
+use Rattle.codes.specs.Reading.{widthOf, scanned, scanIn, scanOf}
 use Rattle.codes.proofs.Fields.{width-low, width-some}
 use Rattle.pfield.proofs.Layouts.{laid-good}
 use Rattle.receiver.specs.Fields.{fieldsIn, wholeIn, answersIn, leftIn}
@@ -27,7 +27,7 @@ use Rattle.receiver.specs.Receiver.{holding, heldIn, madeOf, layoutOf, r
 use Rattle.receiver.specs.Runs.{Piece, callOf, toldBy, takenBy, told, last, taken, whole, Roomy, Ample}
 use Rattle.receiver.specs.declared.Receiver.{Receiver}
 use Rattle.receiver.proofs.States.{good, state-is, held-is, holding-size, holding-state}
-use Rattle.receiver.proofs.Calls.{no-state, no-room, with-room, counted}
+use Rattle.receiver.proofs.Calls.{no-room, with-room, counted}
 use Rattle.receiver.proofs.Runs.{field-number}
 use Rattle.receiver.proofs.Cuts.{parted, cut-answers, cut-left}
 

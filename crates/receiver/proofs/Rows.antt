@@ -1,19 +1,16 @@
 -- Answers in their rows: one read, and one after another.
-use mathlib.Core.Path.{_≡_, refl, sym, ap, _∙_}
-use mathlib.Core.Bool.{true}
+use mathlib.Core.Path.{_≡_, refl, ap, _∙_}
 use mathlib.Core.List.{List, [], _∷_, _++_, map, append-assoc, append-nil}
 use Prim.Native.Nat.{ℕ, suc, _+_, _-_, _^_, _<_, _≤_}
 use native.Mathlib.Nat.{lt-of-lt-of-le}
 use native.Mathlib.Numerals.{add-one, one-add}
 use native.Mathlib.Omega.{arith}
 use lib.Dec.{lit≤}
-use lib.IntN.{ℤ, pos}
+use lib.IntN.{ℤ}
 use lib.ListN.{length, take, drop, set, length-append, length-drop, drop-of-length-le}
 use lib.Seq.{take-all, drop-cons, drop-drop, set-at}
 use Rattle.base.specs.Outcome.{Outcome, done}
-use Rattle.scale.specs.Time.{Time, perSecond}
-use Rattle.scale.specs.Answers.{recorded, saysRecord}
-use Rattle.scale.specs.declared.Record.{Record}
+use Rattle.scale.specs.Time.{Time}
 use Rattle.scale.proofs.Laws.{record-ticks}
 use Rattle.leap.specs.Builtin.{builtin}
 use Rattle.utc.proofs.Builtin.{builtin-reckons}
@@ -26,7 +23,7 @@ use Rattle.receiver.specs.Answers.{rowOf, rowsOver}
 pub ticks-low : (s : List ℕ) (at : ℕ) (l : Layout) (m : Time) → fieldOf builtin s at l ≡ done m → m .ticks < 2 ^ 63
 ticks-low s at l m h = lt-of-lt-of-le (record-ticks m (field-back builtin builtin-reckons s at l m h .0)) (lit≤ tt)
 
-pub length-rows : (xs : List (Outcome Time)) → length (map rowOf xs) ≡ length xs
+length-rows : (xs : List (Outcome Time)) → length (map rowOf xs) ≡ length xs
 length-rows [] = refl
 length-rows (x ∷ xs) = ap suc (length-rows xs)
 

@@ -1,15 +1,13 @@
 -- The T-fields of a run: each is read from its own octets, so that a run can be cut.
-use mathlib.Core.Path.{_≡_, refl, sym, ap, _∙_}
-use mathlib.Core.List.{List, [], _∷_, _++_, append-assoc, append-nil}
-use Prim.Native.Nat.{ℕ, zero, suc, _+_, _*_, _-_, _/_, _%_, _<_, _≤_}
-use native.Mathlib.Nat.{zero-mul, suc-mul, zero-add, suc-add, add-zero, add-mul, mul-le-mul-right, div-add-mod', mod-lt, add-mul-div-right, add-div-left, div-eq-of-lt}
-use native.Mathlib.Numerals.{add-one}
+use mathlib.Core.Path.{_≡_, refl, ap, _∙_}
+use mathlib.Core.List.{List, [], _∷_, _++_}
+use Prim.Native.Nat.{ℕ, zero, suc, _+_, _*_, _-_, _<_, _≤_}
+use native.Mathlib.Nat.{zero-mul, suc-mul, zero-add, suc-add, add-zero, div-add-mod', mod-lt}
 use native.Mathlib.Omega.{arith}
-use lib.ListN.{length, getD, take, drop, length-append, length-drop, take-append-drop}
-use lib.Seq.{take-append-le, drop-append-le, drop-drop, drop-append-add, length-take-le, getD-at}
+use lib.ListN.{length, getD, drop, length-append, length-drop}
+use lib.Seq.{take-append-le, drop-drop, drop-append-add, getD-at}
 use Rattle.base.specs.Outcome.{Outcome, refused}
 use Rattle.scale.specs.Time.{Time}
-use Rattle.octets.proofs.Moved.{Same}
 use Rattle.leap.specs.Table.{Table}
 use Rattle.pfield.specs.declared.Layout.{Layout}
 use Rattle.codes.specs.Reading.{fieldOf, widthOf}

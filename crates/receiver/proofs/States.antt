@@ -1,17 +1,17 @@
 -- What a receiver's state is judged as, and what a good one holds.
 use mathlib.Core.Path.{_≡_, refl, sym, ap, _∙_}
-use mathlib.Core.Bool.{Bool, true, false, _&&_}
-use mathlib.Core.List.{List, [], _++_}
+use mathlib.Core.Bool.{Bool, true, false}
+use mathlib.Core.List.{List, _++_}
 use Prim.Native.Nat.{ℕ, _+_, _-_, _<_, _≤_}
 use native.Mathlib.Omega.{arith}
 use lib.Dec.{ltb}
 use lib.IntN.{ℤ}
-use lib.ListN.{length, take, drop, replicate, length-drop, length-append, length-replicate, take-append-drop}
+use lib.ListN.{length, drop, replicate, length-drop, length-append, length-replicate, take-append-drop}
 use lib.Seq.{take-at, drop-at, length-take-le}
 use borrow.Author.Tests.{lt-ltb, le-ltb, ltb-true}
-use Rattle.base.specs.Outcome.{Outcome, done, refused, need, andThen}
+use Rattle.base.specs.Outcome.{done, refused, need}
 use Rattle.base.proofs.Bools.{and-yes, and-no, and-true}
-use Rattle.base.proofs.Ladders.{need-yes, need-no, need-done, then-done, done-is}
+use Rattle.base.proofs.Ladders.{need-done, then-done, done-is}
 use Rattle.pfield.specs.PField.{laid}
 use Rattle.pfield.specs.declared.PField.{PField}
 use Rattle.pfield.specs.declared.Codes.the-variants.{All}

@@ -1,6 +1,5 @@
 -- `receiver::go_on` meets its contract. The loop's invariant: the first i T-fields stand in their rows.
 use borrow.Author.Needs.{needs}
-use mathlib.Core.Path.{_≡_, sym, ap, _∙_}
 use Prim.Native.Nat.{_-_, _<_}
 use native.Mathlib.Omega.{arith}
 use lib.ListN.{length}

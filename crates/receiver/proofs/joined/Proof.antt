@@ -1,8 +1,7 @@
 -- `receiver::joined` meets its contract. The loop's invariant: the first i octets of the run are there.
-use mathlib.Core.Path.{_≡_, refl}
+use mathlib.Core.Path.{refl}
 use mathlib.Core.List.{_++_}
 use Prim.Native.Nat.{_-_}
-use native.Mathlib.Omega.{arith}
 use lib.ListN.{take}
 use borrow.Author.Needs.{needs}
 use Rattle.receiver.proofs.Pads.{Padding, starts, goes-on, ends}

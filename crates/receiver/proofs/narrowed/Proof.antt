@@ -1,7 +1,6 @@
 -- `receiver::narrowed` meets its contract. The loop's invariant: the first i octets are there.
-use mathlib.Core.Path.{_≡_, refl}
+use mathlib.Core.Path.{refl}
 use Prim.Native.Nat.{_-_}
-use native.Mathlib.Omega.{arith}
 use borrow.Author.Needs.{needs}
 use Rattle.receiver.proofs.Pads.{Padding, starts, goes-on, ends}
 use Rattle.receiver.proofs.narrowed.Statement.{statement}

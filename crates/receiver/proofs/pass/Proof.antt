@@ -1,6 +1,6 @@
 -- `receiver::pass` meets its contract: a piece that completes nothing is held with what was held before; of any other the first T-field is completed, the others are read where they stand, and the rest is kept.
-use mathlib.Core.Path.{_≡_, sym, ap, _∙_}
-use mathlib.Core.List.{List, _++_}
+use mathlib.Core.Path.{_≡_, ap, _∙_}
+use mathlib.Core.List.{_++_}
 use Prim.Native.Nat.{ℕ, _+_, _*_, _-_, _<_, _≤_}
 use native.Mathlib.Omega.{arith}
 use lib.ListN.{length, drop, length-set, length-drop}

@@ -1,7 +1,6 @@
 -- `receiver::row_at` meets its contract: what was read is a record, whose ticks a signed number holds.
 use borrow.Author.Needs.{needs}
-use mathlib.Core.Path.{_≡_, refl, sym, ap, _∙_}
-use native.Mathlib.Omega.{arith}
+use mathlib.Core.Path.{_≡_, sym, ap, _∙_}
 use lib.IntN.{pos}
 use mir.Syntax.{w64}
 use mir.Val.{toZ, ofZ}
@@ -10,7 +9,6 @@ use Rattle.base.specs.Outcome.{done}
 use Rattle.scale.specs.Answers.{recorded, saysRecord}
 use Rattle.leap.specs.Builtin.{builtin}
 use Rattle.codes.specs.Reading.{fieldOf}
-use Rattle.receiver.specs.Answers.{rowOf}
 use Rattle.receiver.proofs.Rows.{ticks-low}
 use Rattle.receiver.proofs.row_at.Statement.{statement}
 use Rattle.receiver.proofs.row_at.Tie as tie

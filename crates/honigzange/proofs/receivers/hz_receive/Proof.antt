@@ -1,5 +1,5 @@
 -- `honigzange::receivers::hz_receive` meets its contract.
-use mathlib.Core.Path.{_≡_, sym, ap, _∙_}
+use mathlib.Core.Path.{ap}
 use lib.ListN.{length}
 use Rattle.leap.specs.Builtin.{builtin}
 use Rattle.receiver.specs.Receiver.{feedOf}

@@ -1,12 +1,12 @@
 -- `honigzange::receivers::pending_in` meets its contract. The loop's invariant: the first i octets are there.
-use mathlib.Core.Path.{_≡_, sym, ap, _∙_}
+use mathlib.Core.Path.{_≡_, _∙_}
 use Prim.Native.Nat.{_-_}
 use native.Mathlib.Nat.{zero-add}
 use native.Mathlib.Omega.{arith}
 use lib.ListN.{length, drop, length-drop}
 use lib.Seq.{getD-drop}
 use borrow.Author.Needs.{needs}
-use Rattle.honigzange.proofs.Puts.{Put, starts, same-size, turns, ends}
+use Rattle.honigzange.proofs.Puts.{Put, starts, turns, ends}
 use Rattle.honigzange.proofs.States.{put-whole}
 use Rattle.honigzange.proofs.receivers.pending_in.Statement.{statement}
 use Rattle.honigzange.proofs.receivers.pending_in.Tie as tie

@@ -4,7 +4,7 @@ use Prim.Native.Nat.{_-_}
 use native.Mathlib.Omega.{arith}
 use lib.ListN.{length}
 use borrow.Author.Needs.{needs}
-use Rattle.honigzange.proofs.Puts.{Put, starts, same-size, turns, ends}
+use Rattle.honigzange.proofs.Puts.{Put, starts, turns, ends}
 use Rattle.honigzange.proofs.receivers.with_pending.Statement.{statement}
 use Rattle.honigzange.proofs.receivers.with_pending.Tie as tie
 

@@ -1,9 +1,8 @@
 -- `receiver::Receiver::new` meets its contract.
-use mathlib.Core.Path.{_≡_, refl, sym, ap, _∙_}
+use mathlib.Core.Path.{_≡_, sym, ap, _∙_}
 use mir.Syntax.{w64}
 use mir.Val.{toZ, ofZ}
 use Rattle.pfield.specs.Answers.{saysLayout}
-use Rattle.receiver.specs.Answers.{Makes}
 use borrow.Author.Needs.{needs}
 use Rattle.receiver.proofs.Receiver.new.Statement.{statement}
 use Rattle.receiver.proofs.Receiver.new.Tie as tie
