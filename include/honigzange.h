@@ -20,16 +20,18 @@
  * written only with the answer 0. After a refusal every byte and cell lent to the call is unchanged.
  *
  * POINTERS. Behind a pointer to lent bytes, len bytes can be read, and behind one to a run of pairs len pairs;
- * behind one to lent room, room bytes, or room elements of a list, can be written. A list and a run are aligned
- * for their elements. Such a pointer may be NULL only when its len or room is 0. A pointer to a result is never
- * NULL and is aligned for its type. No two result cells or lent buffers of a call overlap. A bool is true or
- * false. No other argument is bounded: every bit pattern is allowed.
+ * behind one to lent room, room bytes, or room elements of a list, or room rows, can be written. A list, a run
+ * and rows are aligned for their elements. Such a pointer may be NULL only when its len or room is 0. A pointer to
+ * a result or to a receiver is never NULL and is aligned for its type. No two result cells, receivers or lent
+ * buffers of a call overlap. A bool is true or false. No other argument is bounded: every bit pattern is allowed,
+ * in a receiver too.
  *
  * TEXT. Text is bytes and a length, read and written. It is NOT terminated by a NUL: a written text ends after
  * as many bytes as the call says, and a NUL that is read is a character like any other, and refused.
  *
- * STATE. No function allocates, keeps a pointer, or keeps state: all may be called from any threads at once, as
- * long as no two calls share memory that one of them writes. The library needs no other library.
+ * STATE. No function allocates, keeps a pointer, or keeps state: what a receiver holds between two calls is in the
+ * caller's own struct. All may be called from any threads at once, as long as no two calls share memory that one of
+ * them writes. The library needs no other library.
  */
 #ifndef HONIGZANGE_H
 #define HONIGZANGE_H
@@ -76,7 +78,7 @@ extern "C" {
 #define HZ_FIELD 4          /* a field, BCD digit, character or length breaks its rule */
 #define HZ_UNCOVERED 5      /* UTC day outside the table of leap seconds */
 #define HZ_NO_SUCH_SECOND 6 /* a second 60 (or millisecond from 86400000) on a day without one */
-#define HZ_RANGE 7          /* invalid record, span or epoch; sum, day or elapsed out of range; target can't hold it */
+#define HZ_RANGE 7          /* invalid record, span, epoch, state; sum, day, elapsed out of range; target can't hold it */
 #define HZ_ROOM 8           /* output too short */
 #define HZ_WINDOW 9         /* window's end before its start */
 #define HZ_NOT_ELAPSED 10   /* ground elapsed zero or negative */
@@ -312,6 +314,85 @@ uint8_t hz_read_binary(const uint8_t *bytes, size_t len, bool front, uint8_t p, 
  */
 uint8_t hz_write_binary(int64_t sec, uint64_t ticks, bool front, uint8_t p, int64_t epoch,
                         uint8_t *out, size_t room, size_t *written);
+
+/*
+ * RECEIVER. A serial port hands bytes over as they come, and cuts codes anywhere. A receiver has one P octet and one
+ * epoch, and takes the T-fields that arrive one after another, without a P octet, in pieces of any length, 0 among
+ * them. It holds the octets of an unfinished T-field until the others come. However the bytes are cut, the answers
+ * are those of hz_read_binary, the P octet apart, on all of them: one T-field, and then the one behind it.
+ *
+ * Each T-field that a piece completes has a row: its record, or why it is refused, which is HZ_FIELD, HZ_UNCOVERED or
+ * HZ_NO_SUCH_SECOND. A refused T-field uses up its length as a good one does. A receiver does not look for the start of
+ * a T-field: when the link has lost a byte, another one is made where a T-field begins.
+ *
+ *     static const uint8_t first[] = {0x54, 0x2D, 0x05, 0x26}, second[] = {0x5C, 0x00, 0x54, 0x2D};
+ *     hz_receiver receiver;
+ *     hz_row rows[4];
+ *     size_t count;
+ *     uint8_t refusal = hz_receiver_make(0x40, 0, &receiver);
+ *     if (refusal == 0)
+ *         refusal = hz_receive(&receiver, first, sizeof first, rows, 4, &count);
+ *     if (refusal == 0)
+ *         refusal = hz_receive(&receiver, second, sizeof second, rows, 4, &count);
+ *
+ * The first piece completes nothing, and its count is 0. Now refusal is 0, count 1, rows[0] is 0, 1861920036 and 0,
+ * which is 2016-12-31T23:59:60, and 54 2D are pending.
+ */
+
+/* A receiver: octets alone, without gaps. It may be copied and kept anywhere, and a copy goes on where it was made. */
+typedef struct hz_receiver {
+    uint8_t p;           /* the P octet */
+    uint8_t epoch[8];    /* the epoch, signed, big-endian */
+    uint8_t count;       /* how many octets are pending */
+    uint8_t pending[12]; /* these octets, and zeros behind them */
+} hz_receiver;
+
+/* What a T-field says: refusal 0 and a record, or a refusal number, and 0 for the others. */
+typedef struct hz_row {
+    uint64_t refusal;
+    int64_t sec;
+    uint64_t ticks;
+} hz_row;
+
+/*
+ * A receiver that holds nothing yet.
+ *
+ * p: the P octet of all its T-fields.
+ * epoch: whole TAI seconds (CUC 010) or a day number (CDS with bit 4 set). Ignored, whatever it is, by a
+ *        code that does not use it.
+ * receiver: the receiver is written here.
+ *
+ * 0                  done.
+ *
+ * Refused with the first of these that holds:
+ * HZ_IDENTIFICATION  bits 1-3 of the P octet are 000, 011, 110 or 111.
+ * HZ_UNSUPPORTED     its bit 0 is set; it is CDS with 11 in bits 6-7; it is CCS with 111 in bits 5-7.
+ * HZ_RANGE           the code uses the epoch, and that is outside its range.
+ */
+uint8_t hz_receiver_make(uint8_t p, int64_t epoch, hz_receiver *receiver);
+
+/*
+ * A piece for a receiver: a row for each T-field that it completes, in their order. The bytes left at the end stay
+ * pending.
+ *
+ * receiver: the receiver. What is then pending is written here.
+ * piece, len: the bytes that follow those of the calls before. NULL only when len is 0.
+ * rows, room: the rows are written to the first of these; later ones stay as they were. NULL only when room is 0.
+ *             T-fields of w octets take (pending + len) / w rows: a room of len is always enough, and none is
+ *             asked for where no T-field is completed.
+ * count: the number of rows is written here.
+ *
+ * 0                  done, also when every row is a refusal.
+ *
+ * Refused with the first of these that holds. The receiver is as it was, and no byte of the piece is taken:
+ * HZ_IDENTIFICATION  hz_receiver_make would refuse the receiver's P octet so.
+ * HZ_UNSUPPORTED     likewise.
+ * HZ_RANGE           its epoch likewise; as many octets are pending as a T-field has, or more; or an octet behind
+ *                    those pending is not 0. No call leaves such a receiver.
+ * HZ_ROOM            room is less than the T-fields that the piece completes.
+ */
+uint8_t hz_receive(hz_receiver *receiver, const uint8_t *piece, size_t len,
+                   hz_row *rows, size_t room, size_t *count);
 
 /*
  * ASCII CODES. A code is the whole text and shows UTC, with Z or without:

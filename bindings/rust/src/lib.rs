@@ -1,6 +1,6 @@
 //! CCSDS 301.0-B-4 time codes on one exact scale: the safe calls over the proved library.
 //!
-//! No call allocates, keeps state, panics or rounds: a code that cannot hold the whole of a fraction has it
+//! No call allocates, keeps state of its own, panics or rounds: a code that cannot hold the whole of a fraction has it
 //! taken downward. A call that cannot answer says why with a [`Refusal`].
 //!
 //! The table of leap seconds covers the UTC days 1972-01-01 to 2025-12-31 and no others. A call that needs
@@ -77,6 +77,8 @@ mod leap;
 #[allow(unsafe_code)]
 pub mod raw;
 #[forbid(unsafe_code)]
+mod receiver;
+#[forbid(unsafe_code)]
 mod refusal;
 #[forbid(unsafe_code)]
 mod scale;
@@ -92,6 +94,7 @@ pub use calendar::{
 };
 pub use drift::{rate, rates, Extreme, Pair, Rate, Report};
 pub use leap::{second_of_utc, utc_of_second, Utc, COVER_END, COVER_START};
+pub use receiver::{Receiver, Row};
 pub use refusal::Refusal;
 pub use scale::{difference, shift, Record, Span};
 pub use setting::{write, Setting};

@@ -4,9 +4,10 @@
 //! The calls at the crate's root say the same with [`Result`], but `rates`, which is never refused.
 
 use crate::drift::Pair;
+use crate::receiver::Row;
 
 mod c {
-    use super::{Pair, Report};
+    use super::{Pair, Receiver, Report, Row};
 
     extern "C" {
         pub fn hz_difference(
@@ -55,6 +56,15 @@ mod c {
             out: *mut u8,
             room: usize,
             written: *mut usize,
+        ) -> u8;
+        pub fn hz_receiver_make(p: u8, epoch: i64, receiver: *mut Receiver) -> u8;
+        pub fn hz_receive(
+            receiver: *mut Receiver,
+            piece: *const u8,
+            len: usize,
+            rows: *mut Row,
+            room: usize,
+            count: *mut usize,
         ) -> u8;
         pub fn hz_read_ascii(text: *const u8, len: usize, sec: *mut i64, ticks: *mut u64) -> u8;
         pub fn hz_write_ascii(
@@ -117,6 +127,30 @@ mod c {
         ) -> u8;
         pub fn hz_rates(run: *const Pair, len: usize, report: *mut Report) -> u8;
     }
+}
+
+/// A receiver as the calls keep it: octets alone. One that no call made is refused.
+#[derive(Clone, Copy, PartialEq, Eq, Debug, Hash)]
+#[repr(C)]
+pub struct Receiver {
+    /// The P octet.
+    pub p: u8,
+    /// The epoch, signed, big-endian.
+    pub epoch: [u8; 8],
+    /// How many octets are pending.
+    pub count: u8,
+    /// These octets, and zeros behind them.
+    pub pending: [u8; 12],
+}
+
+impl Receiver {
+    /// Before a call makes one: 22 zeros, which are refused with 2.
+    pub const NONE: Receiver = Receiver {
+        p: 0,
+        epoch: [0; 8],
+        count: 0,
+        pending: [0; 12],
+    };
 }
 
 /// A rate of a run and its place, as it stands in a [`Report`]. A denominator 0 is no rate.
@@ -260,6 +294,22 @@ pub fn write_binary(
     // SAFETY: numbers may hold anything, the bytes are as many as said, and an exclusive reference is a cell
     // apart from them.
     unsafe { c::hz_write_binary(sec, ticks, front, p, epoch, start, room, written) }
+}
+
+/// A receiver that holds nothing yet.
+pub fn receiver_make(p: u8, epoch: i64, receiver: &mut Receiver) -> u8 {
+    // SAFETY: numbers may hold anything, and an exclusive reference is a receiver, laid out as the header's struct.
+    unsafe { c::hz_receiver_make(p, epoch, receiver) }
+}
+
+/// A row for each T-field that a piece completes, how many they are, and the receiver for the next piece.
+pub fn receive(receiver: &mut Receiver, piece: &[u8], rows: &mut [Row], count: &mut usize) -> u8 {
+    let (bytes, len) = (piece.as_ptr(), piece.len());
+    let (start, room) = (rows.as_mut_ptr(), rows.len());
+    // SAFETY: a receiver may hold anything, the bytes and the rows are as many as said, two exclusive references
+    // are a receiver and a cell apart from each other and from them, and receiver and rows are laid out as the
+    // header's structs.
+    unsafe { c::hz_receive(receiver, bytes, len, start, room, count) }
 }
 
 /// The moment of an ASCII code, which is the whole text.

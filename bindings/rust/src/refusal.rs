@@ -26,7 +26,8 @@ pub enum Refusal {
     Uncovered,
     /// 6: a second 60 (or millisecond from 86,400,000) on a day without one.
     NoSuchSecond,
-    /// 7: invalid record, span or epoch; sum, day number or elapsed time out of range; target can't hold it.
+    /// 7: invalid record, span, epoch or receiver; sum, day number or elapsed time out of range; target can't hold
+    /// it.
     Range,
     /// 8: output too short.
     Room,

@@ -16,5 +16,6 @@ pub mod leap;
 pub mod listing;
 mod octets;
 pub mod program;
+pub mod receiver;
 pub mod rng;
 pub mod scale;

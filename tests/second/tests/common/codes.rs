@@ -191,6 +191,29 @@ impl Moments {
         }
     }
 
+    /// An epoch that the code takes.
+    pub fn good_epoch(&self, rng: &mut Rng, p: u8) -> i64 {
+        let sec = self.sec(rng, p);
+        let reach = if kind(p) == Some(Kind::Cds) { 24 } else { 40 };
+        let epoch = self.epoch(rng, p, sec);
+        match uses_epoch(p) {
+            true => epoch.clamp(-1 << reach, (1 << reach) - 1),
+            false => epoch,
+        }
+    }
+
+    /// A good T-field under an epoch more often than not.
+    pub fn field_from(&self, rng: &mut Rng, p: u8, epoch: i64) -> Vec<u8> {
+        if kind(p) != Some(Kind::Cuc) && rng.once_in(3) {
+            let day = self.edge_day(rng);
+            let from = if uses_epoch(p) { epoch } else { 0 };
+            return edge_on(rng, p, day, day - from);
+        }
+        let Record { sec, ticks } = self.record(rng, p);
+        let code = binary::write(sec, ticks, false, p, epoch, usize::MAX);
+        code.unwrap_or_else(|_| self.t_field(rng, p).0)
+    }
+
     /// A good T-field more often than not, and its epoch.
     pub fn t_field(&self, rng: &mut Rng, p: u8) -> (Vec<u8>, i64) {
         if kind(p) != Some(Kind::Cuc) && rng.once_in(4) {
@@ -204,26 +227,37 @@ impl Moments {
 
     /// A T-field at midnight or around it, most often on a day at which a rule changes, and its epoch.
     fn edge_field(&self, rng: &mut Rng, p: u8) -> (Vec<u8>, i64) {
-        let leap = rng.pick(&self.leaps).1;
-        let end = rng.pick(&[FIRST_DAY, LAST_DAY]);
-        let day = match rng.below(3) {
-            0 => end + rng.between(-2, 2),
-            1 => leap + rng.between(0, 1),
-            _ => rng.between(FIRST_DAY, LAST_DAY),
-        };
+        let day = self.edge_day(rng);
         if kind(p) == Some(Kind::Ccs) {
-            let time = rng.pick(&["000000", "235959", "235960", "235961"]);
-            let t = ccs_field(rng, p, &[&date(p, day), time].concat());
-            return (t, rng.i64());
+            return (edge_on(rng, p, day, 0), rng.i64());
         }
         let count = match uses_epoch(p) {
             true => rng.between(0, counts(p) - 1),
             false => day,
         };
-        let millisecond = rng.pick(&[0, 86_399_999, 86_400_000, 86_400_999, 86_401_000]);
-        let remainder = rng.below(1_001);
-        (cds_field(p, count, millisecond, remainder), day - count)
+        (edge_on(rng, p, day, count), day - count)
     }
+
+    fn edge_day(&self, rng: &mut Rng) -> i64 {
+        let leap = rng.pick(&self.leaps).1;
+        let end = rng.pick(&[FIRST_DAY, LAST_DAY]);
+        match rng.below(3) {
+            0 => end + rng.between(-2, 2),
+            1 => leap + rng.between(0, 1),
+            _ => rng.between(FIRST_DAY, LAST_DAY),
+        }
+    }
+}
+
+/// A T-field at midnight or around it on a day, which CDS counts so.
+fn edge_on(rng: &mut Rng, p: u8, day: i64, count: i64) -> Vec<u8> {
+    if kind(p) == Some(Kind::Ccs) {
+        let time = rng.pick(&["000000", "235959", "235960", "235961"]);
+        return ccs_field(rng, p, &[&date(p, day), time].concat());
+    }
+    let millisecond = rng.pick(&[0, 86_399_999, 86_400_000, 86_400_999, 86_401_000]);
+    let remainder = rng.below(1_001);
+    cds_field(p, count, millisecond, remainder)
 }
 
 /// Good ticks: any, or at most one tick from a step of some code.
