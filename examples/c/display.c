@@ -1,7 +1,8 @@
 /*
  * A small display: it shows what a link delivers, code by code, and what a code that can't be shown is refused
- * for. Of a counter that has wrapped, and of a tag that was shortened, it shows every moment that they can mean
- * around the time at which they came. Of an onboard clock it shows the drift. What it prints is display.out.
+ * for. A serial port cuts codes anywhere, and a receiver puts them together again. Of a counter that has wrapped, and
+ * of a tag that was shortened, it shows every moment that they can mean around the time at which they came. Of an
+ * onboard clock it shows the drift. What it prints is display.out.
  */
 #include <honigzange.h>
 
@@ -53,6 +54,15 @@ static const struct frame frames[] = {
 
 /* No epoch is known on this link, and a number outside its range says so: a code that asks for one is refused. */
 #define NO_EPOCH INT64_MAX
+
+/* What a serial port handed over: T-fields of CDS, days and milliseconds, as they came. */
+static const struct frame pieces[] = {
+    BINARY("", "\x54\x2D\x05\x26\x58"),
+    BINARY("", "\x18\x54\x2D"),
+    BINARY("", ""),
+    BINARY("", "\x05\x26\x5C\x00\x54\x2D\x05\x26\x5F\xE8\x54\x2E\x00\x00"),
+    BINARY("", "\x00\x00"),
+};
 
 static const struct frame counter = BINARY("counter A5 24", "\x14\xA5\x24");
 static const struct frame leaps = ASCII("tag ::60", "::60");
@@ -122,6 +132,35 @@ static void show_frame(struct frame frame)
         }
         show_moment(sec, ticks);
     } while (frame.len > 0);
+}
+
+/* Each piece that the port handed over, what is pending after it, and the T-fields that it completed. */
+static void show_port(void)
+{
+    hz_receiver receiver;
+    hz_row rows[PAGE];
+    size_t seen = 0, count, i, row;
+    uint8_t refusal = hz_receiver_make(0x40, NO_EPOCH, &receiver);
+
+    for (i = 0; refusal == 0 && i < sizeof pieces / sizeof *pieces; i++) {
+        refusal = hz_receive(&receiver, (const uint8_t *)pieces[i].bytes, pieces[i].len, rows, PAGE, &count);
+        if (refusal != 0) {
+            break;
+        }
+        printf("  %zu bytes, %d pending\n", pieces[i].len, receiver.count);
+        for (row = 0; row < count; row++) {
+            printf("  %22zu ", seen++);
+            if (rows[row].refusal != 0) {
+                show_refusal((uint8_t)rows[row].refusal);
+            } else {
+                show_moment(rows[row].sec, rows[row].ticks);
+            }
+        }
+    }
+    if (refusal != 0) {
+        printf("  ");
+        show_refusal(refusal);
+    }
 }
 
 /* The first moments that a tag names from one moment on and before a second. */
@@ -246,6 +285,8 @@ int main(void)
     for (i = 0; i < sizeof frames / sizeof *frames; i++) {
         show_frame(frames[i]);
     }
+    printf("serial port\n");
+    show_port();
     show_tag(&counter, about, 2 * DAY);
     show_tag(&leaps, about, 1000 * DAY);
     show_tag(&minute, about, 2 * HOUR);

@@ -1,4 +1,4 @@
-/* Known times and rates of documents 01 and 02 that are run: each answer on a line, to be the lines of known.out. */
+/* Known answers of documents 01 and 02 that are run: each on a line, to be the lines of known.out. */
 #include "honigzange.h"
 
 #include <inttypes.h>
@@ -91,6 +91,47 @@ static void print_report(const hz_pair *run, size_t len)
     printf("\n");
 }
 
+static void print_octets(const char *what, const uint8_t *octets, size_t len)
+{
+    size_t i;
+
+    printf("%s", what);
+    for (i = 0; i < len; i++) {
+        printf(" %02X", octets[i]);
+    }
+}
+
+/* A piece, with so many rows: its rows, and what is pending then. */
+static void print_piece(hz_receiver *receiver, const uint8_t *piece, size_t len, size_t room)
+{
+    hz_row rows[2];
+    size_t count, i;
+    uint8_t refusal = hz_receive(receiver, piece, len, rows, room, &count);
+
+    print_octets("piece", piece, len);
+    printf(", room %zu: %d", room, refusal);
+    for (i = 0; refusal == 0 && i < count; i++) {
+        printf(", row %" PRIu64 " %" PRId64 " %" PRIu64, rows[i].refusal, rows[i].sec, rows[i].ticks);
+    }
+    print_octets(", pending", receiver->pending, receiver->count);
+    printf("\n");
+}
+
+/* A T-field of days and milliseconds, cut in its millisecond, which the rest makes one too large; and the same start
+ * again behind it. */
+static void print_receiver(void)
+{
+    static const uint8_t day[] = {0x54, 0x2D, 0x05, 0x26}, rest[] = {0x5F, 0xE8, 0x54, 0x2D, 0x05, 0x26};
+    hz_receiver receiver;
+
+    printf("made: %d, ", hz_receiver_make(0x1C, INT64_MAX, &receiver));
+    printf("%d, ", hz_receiver_make(0x2C, INT64_C(1) << 40, &receiver));
+    printf("%d\n", hz_receiver_make(0x40, 0, &receiver));
+    print_piece(&receiver, day, sizeof day, 0);
+    print_piece(&receiver, rest, sizeof rest, 0);
+    print_piece(&receiver, rest, sizeof rest, 1);
+}
+
 int main(void)
 {
     static const hz_pair run[] = {{0, 0, 0, 0}, {1, 0, 2, 0}, {1, 0, 2, 0}, {2, 0, 4, 0}, {5, 0, 4, 0}, {4, 0, 6, 0}};
@@ -122,5 +163,6 @@ int main(void)
     print_rate(0, 0, 1, 0);
     print_report(run, 6);
     print_report(run, 1);
+    print_receiver();
     return 0;
 }

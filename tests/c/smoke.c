@@ -445,6 +445,62 @@ static void runs(void)
     expect("the largest", report.largest.num == 1 && report.largest.den == 1 && report.largest.place == 0);
 }
 
+static void makings(void)
+{
+    hz_receiver receiver, before;
+
+    memset(&receiver, 0xEE, sizeof receiver);
+    before = receiver;
+    expect("identification 110 is refused", hz_receiver_make(0xE0, 0, &receiver) == HZ_IDENTIFICATION);
+    expect("the extension bit is refused", hz_receiver_make(0xAC, INT64_MAX, &receiver) == HZ_UNSUPPORTED);
+    expect("then a bad epoch", hz_receiver_make(0x48, INT64_C(1) << 24, &receiver) == HZ_RANGE);
+    expect("a refusal writes nothing", memcmp(&receiver, &before, sizeof receiver) == 0);
+    expect("an epoch that is not used may be any", hz_receiver_make(0x1C, INT64_MIN, &receiver) == 0);
+    expect("a receiver holds nothing at first", receiver.p == 0x1C && receiver.epoch[0] == 0x80 &&
+                                                    receiver.epoch[7] == 0 && receiver.count == 0 &&
+                                                    receiver.pending[0] == 0 && receiver.pending[11] == 0);
+    expect("an epoch is big-endian",
+           hz_receiver_make(0x2C, -2, &receiver) == 0 && receiver.epoch[0] == 0xFF && receiver.epoch[7] == 0xFE);
+}
+
+/* The header's own example, and what it says of rows and of receivers that no call left. */
+static void pieces(void)
+{
+    static const uint8_t first[] = {0x54, 0x2D, 0x05, 0x26}, second[] = {0x5C, 0x00, 0x54, 0x2D};
+    hz_receiver receiver, copy;
+    hz_row rows[2], none[2];
+    size_t count = 17;
+
+    expect("the structs have no gaps", sizeof(hz_receiver) == 22 && sizeof(hz_row) == 24);
+    memset(rows, 0xEE, sizeof rows);
+    memcpy(none, rows, sizeof none);
+    expect("a receiver is made", hz_receiver_make(0x40, 0, &receiver) == 0);
+    expect("no bytes and no rows at NULL", hz_receive(&receiver, NULL, 0, NULL, 0, &count) == 0 && count == 0);
+    count = 17;
+    expect("a piece that completes nothing asks for no room",
+           hz_receive(&receiver, first, sizeof first, NULL, 0, &count) == 0 && count == 0);
+    expect("its octets are pending", receiver.count == 4 && memcmp(receiver.pending, first, sizeof first) == 0);
+    copy = receiver;
+    count = 17;
+    expect("a row too few is refused", hz_receive(&receiver, second, sizeof second, rows, 0, &count) == HZ_ROOM);
+    expect("a refusal writes nothing", memcmp(&receiver, &copy, sizeof copy) == 0 &&
+                                           memcmp(rows, none, sizeof rows) == 0 && count == 17);
+    expect("the leap second",
+           hz_receive(&receiver, second, sizeof second, rows, 2, &count) == 0 && count == 1 && rows[0].refusal == 0 &&
+               rows[0].sec == 1861920036 && rows[0].ticks == 0 && receiver.count == 2);
+    expect("a later row stays", memcmp(&rows[1], &none[1], sizeof *rows) == 0);
+    expect("a copy goes on where it was made",
+           hz_receive(&copy, second, sizeof second, rows, 1, &count) == 0 &&
+               memcmp(&receiver, &copy, sizeof copy) == 0);
+    copy.pending[2] = 1;
+    expect("an octet behind those pending is refused", hz_receive(&copy, first, 1, rows, 2, &count) == HZ_RANGE);
+    copy = receiver;
+    copy.count = 6;
+    expect("so is a whole T-field pending", hz_receive(&copy, first, 1, rows, 2, &count) == HZ_RANGE);
+    copy.p = 0x47;
+    expect("before that the P octet is judged", hz_receive(&copy, first, 1, rows, 2, &count) == HZ_UNSUPPORTED);
+}
+
 int main(void)
 {
     meanings();
@@ -463,6 +519,8 @@ int main(void)
     lists_of_texts();
     rates();
     runs();
+    makings();
+    pieces();
     if (!wrong) {
         printf("smoke: all as known\n");
     }

@@ -1,13 +1,13 @@
 //! A small display: it shows what a link delivers, code by code, and what a code that can't be shown is refused
-//! for. Of a counter that has wrapped, and of a tag that was shortened, it shows every moment that they can mean
-//! around the time at which they came. Of an onboard clock it shows the drift. It prints what
-//! `examples/c/display.c` does, which is `display.out` there.
+//! for. A serial port cuts codes anywhere, and a receiver puts them together again. Of a counter that has wrapped, and
+//! of a tag that was shortened, it shows every moment that they can mean around the time at which they came. Of an
+//! onboard clock it shows the drift. It prints what `examples/c/display.c` does, which is `display.out` there.
 
 #![forbid(unsafe_code)]
 
 use honigzange::{
     difference, list_ascii, list_cuc, rate, rates, read_ascii, read_binary, shift, write_wall,
-    Extreme, Pair, Preamble, Record, Refusal, Span, WALL_ROOM,
+    Extreme, Pair, Preamble, Receiver, Record, Refusal, Row, Span, WALL_ROOM,
 };
 
 const PAGE: usize = 4;
@@ -53,6 +53,15 @@ const FRAMES: [(&str, Frame); 17] = [
     ("ASCII, no such second", Ascii(b"2015-12-31T23:59:60Z")),
 ];
 
+/// What a serial port handed over: T-fields of CDS, days and milliseconds, as they came.
+const PIECES: [&[u8]; 5] = [
+    b"\x54\x2D\x05\x26\x58",
+    b"\x18\x54\x2D",
+    b"",
+    b"\x05\x26\x5C\x00\x54\x2D\x05\x26\x5F\xE8\x54\x2E\x00\x00",
+    b"\x00\x00",
+];
+
 const COUNTER: (&str, Frame) = ("counter A5 24", Binary(b"\x14\xA5\x24"));
 const LEAPS: (&str, Frame) = ("tag ::60", Ascii(b"::60"));
 const MINUTE: (&str, Frame) = ("tag :30", Ascii(b":30"));
@@ -94,6 +103,22 @@ fn show_frame(what: &str, frame: Frame) {
             }
         }
     }
+}
+
+/// Each piece that the port handed over, what is pending after it, and the T-fields that it completed.
+fn show_port() -> Result<(), Refusal> {
+    let mut receiver = Receiver::new(0x40, NO_EPOCH)?;
+    let (mut rows, mut seen) = ([Row::EMPTY; PAGE], 0);
+    for piece in PIECES {
+        let (next, answered) = receiver.feed(piece, &mut rows)?;
+        println!("  {} bytes, {} pending", piece.len(), next.pending().len());
+        for row in answered {
+            println!("  {seen:22} {}", face(row.answer()));
+            seen += 1;
+        }
+        receiver = next;
+    }
+    Ok(())
 }
 
 /// A page of moments that a tag names from `from` on and before `to`, and whether there are more.
@@ -180,6 +205,10 @@ fn main() {
     println!("link");
     for (what, frame) in FRAMES {
         show_frame(what, frame);
+    }
+    println!("serial port");
+    if let Err(refusal) = show_port() {
+        println!("  {refusal}");
     }
     show_tag(COUNTER, 2 * DAY);
     show_tag(LEAPS, 1000 * DAY);
