@@ -29,6 +29,7 @@ struct input {
     int64_t epoch;
     uint64_t year, month, day;
     uint8_t bytes[HZ_ASCII_ROOM];
+    hz_receiver receiver;
     uint8_t len, room, p, digits;
     bool front, day_of_year, z;
 };
@@ -43,6 +44,8 @@ struct cells {
     uint8_t out[HZ_ASCII_ROOM];
     int64_t list[LISTED];
     hz_report report;
+    hz_receiver receiver;
+    hz_row row;
 };
 
 static struct input inputs[INPUTS];
@@ -162,6 +165,30 @@ static void binary_read(struct input *in)
         in->len--;
 }
 
+static void making(struct input *in)
+{
+    binary_setting(in);
+    if (spoiled())
+        in->p |= 0x80;
+}
+
+/* A piece that completes the T-field of which a receiver holds some octets, and leaves as many of another. */
+static void piece(struct input *in)
+{
+    uint8_t t[HZ_BINARY_ROOM];
+    size_t written, held, count;
+
+    binary_setting(in);
+    hz_write_binary(in->sec, in->ticks, false, in->p, in->epoch, t, sizeof t, &written);
+    held = below(written);
+    hz_receiver_make(in->p, in->epoch, &in->receiver);
+    hz_receive(&in->receiver, t, held, NULL, 0, &count);
+    memcpy(in->bytes, t + held, written - held);
+    memcpy(in->bytes + (written - held), t, held);
+    in->len = (uint8_t)written;
+    in->room = !spoiled();
+}
+
 static void ascii_setting(struct input *in)
 {
     moment(in);
@@ -266,6 +293,8 @@ CALLS(utc_of_second, in->sec, &to->sec, &to->ticks, &to->offset)
 CALLS(second_of_utc, in->sec, in->day, &to->sec)
 CALLS(read_binary, in->bytes, in->len, in->front, in->p, in->epoch, &to->sec, &to->ticks, &to->count)
 CALLS(write_binary, in->sec, in->ticks, in->front, in->p, in->epoch, to->out, in->room, &to->count)
+CALLS(receiver_make, in->p, in->epoch, &to->receiver)
+CALLS(receive, (to->receiver = in->receiver, &to->receiver), in->bytes, in->len, &to->row, in->room, &to->count)
 CALLS(read_ascii, in->bytes, in->len, &to->sec, &to->ticks)
 CALLS(write_ascii, in->sec, in->ticks, in->day_of_year, in->digits, in->z, to->out, in->room, &to->count)
 CALLS(write_wall, in->sec, in->ticks, to->out, in->room, &to->count)
@@ -298,7 +327,8 @@ static const struct call {
     CALL(read_ascii, ascii_read, INPUTS),        CALL(write_ascii, ascii_write, INPUTS),
     CALL(write_wall, ascii_write, INPUTS),       CALL(list_cuc, cuc_tag, INPUTS),
     CALL(list_ascii, ascii_tag, 256),            CALL(rate, run_of_pairs, INPUTS),
-    CALL(rates, run_of_pairs, INPUTS),
+    CALL(rates, run_of_pairs, INPUTS),           CALL(receiver_make, making, INPUTS),
+    CALL(receive, piece, INPUTS),
 };
 
 #define COUNT (sizeof calls / sizeof *calls)

@@ -5,7 +5,7 @@
 
 use second::ascii::{Setting, Text, DEFAULT};
 use second::listing::Listing;
-use second::{ascii, ascii_tag, binary, calendar, cuc_tag, drift, leap, scale};
+use second::{ascii, ascii_tag, binary, calendar, cuc_tag, drift, leap, receiver, scale};
 use std::slice;
 
 /// Hands a call's values on to the cells, or its refusal number to the caller.
@@ -316,4 +316,42 @@ pub unsafe extern "C" fn second_rates(run: *const Pair, len: usize, report: &mut
         largest: extreme(told.largest),
     };
     0
+}
+
+/// A receiver's octets, and a row, as include/honigzange.h has them.
+pub type Receiver = receiver::State;
+
+#[repr(C)]
+pub struct Row {
+    refusal: u64,
+    sec: i64,
+    ticks: u64,
+}
+
+#[no_mangle]
+pub extern "C" fn second_receiver_make(p: u8, epoch: i64, receiver: &mut Receiver) -> u8 {
+    done(receiver::make(p, epoch), |made| *receiver = made)
+}
+
+#[no_mangle]
+pub unsafe extern "C" fn second_receive(
+    receiver: &mut Receiver,
+    piece: *const u8,
+    len: usize,
+    rows: *mut Row,
+    room: usize,
+    count: &mut usize,
+) -> u8 {
+    let piece = slice::from_raw_parts(piece, len);
+    let rows = slice::from_raw_parts_mut(rows, room);
+    done(receiver::receive(*receiver, piece, room), |(next, told)| {
+        (*receiver, *count) = (next, told.len());
+        for (row, (refusal, sec, ticks)) in rows.iter_mut().zip(told) {
+            *row = Row {
+                refusal,
+                sec,
+                ticks,
+            };
+        }
+    })
 }
