@@ -9,6 +9,8 @@ use Rattle.base.specs.Parts.{plus, minus}
 use Rattle.base.proofs.Signed.{apart, difference, abs-is, lt-yes, lt-no, word, word-plus, word-minus, back, cast-fits}
 use Rattle.base.proofs.raised.Statement.{statement}
 use Rattle.base.proofs.raised.Tie as tie
+use Rattle.base.proofs.raised.Reads as reads
+use Rattle.base.proofs.raised.Lts as lts
 
 read : (s : tie.Start) → toZ w64 (ofZ w64 (s .args .z)) ≡ s .args .z
 read s = back w64 (s .args .z) (s .fits .z)
