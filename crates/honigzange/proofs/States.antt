@@ -9,21 +9,21 @@ use lib.IntN.{ℤ, pos, negsuc}
 use lib.ListN.{length, getD, drop, set, replicate, length-append, length-set}
 use lib.Seq.{drop-drop, drop-at, getD-at}
 use Rattle.base.specs.Parts.{plus, minus, bitsOf, signedOf}
+use Rattle.base.specs.Outcome.{Outcome, done, refused, given, cell}
 use Rattle.base.proofs.Signed.{signed-bits}
+use Rattle.base.proofs.Ladders.{never, done-is, refused-is}
 use Rattle.octets.specs.Places.{be, octets, octetValue, octetOf}
 use Rattle.octets.specs.Stores.{pasted, Stored}
 use Rattle.octets.proofs.Places.{length-places, number-append, number-places, octet-rule}
 use Rattle.octets.proofs.Pastes.{paste-first, paste-one, then, stored, length-pasted}
-use Rattle.pfield.specs.PField.{octet, laid}
-use Rattle.receiver.specs.declared.Receiver.{Receiver}
-use Rattle.base.specs.Outcome.{Outcome, done, refused, given}
-use Rattle.base.proofs.Ladders.{never, done-is, refused-is}
 use Rattle.leap.specs.Builtin.{builtin}
+use Rattle.pfield.specs.PField.{octet, laid}
 use Rattle.pfield.specs.declared.PField.{PField}
 use Rattle.pfield.specs.declared.Codes.the-variants.{All}
 use Rattle.pfield.specs.declared.Layout.{Layout}
-use Rattle.receiver.specs.Receiver.{holding, madeOf, Fate, feedOf}
+use Rattle.receiver.specs.Receiver.{holding, madeOf, Fate, feedOf, nextOf}
 use Rattle.receiver.specs.Answers.{saysFeed, countOf, noneBy, Feeds}
+use Rattle.receiver.specs.declared.Receiver.{Receiver}
 use Rattle.receiver.specs.declared.Fed.{Fed}
 use Rattle.receiver.proofs.Cuts.{few-left}
 use Rattle.honigzange.specs.Cells.{stateOf, receiverIn}
@@ -67,6 +67,22 @@ given-back r low high =
     let bits = bitsOf (r .epoch) in
     let e : signedOf (be (octets 8 bits) 8) ≡ r .epoch = ap signedOf (number-places octet-rule 8 bits (bits-low (r .epoch) low)) ∙ signed-bits (r .epoch) low high in
     parts-in (r .p .octet) (r .count) (octets 8 bits) (r .pending) (length-places 256 octetOf 8 bits) ∙ (λ i. record { p = r .p; epoch = e i; pending = r .pending; count = r .count })
+
+-- so a struct that holds a receiver holds the next one after a call, whatever that came to: the law on receivers (`however-cut`) is one on structs
+held-after : (r : Receiver) (x : Outcome Fate) → cell (λ (f : Fate). stateOf (nextOf r (done f))) x (stateOf r) ≡ stateOf (nextOf r x)
+held-after r (done f) = refl
+held-after r (refused n) = refl
+
+epoch-stays : (r : Receiver) (x : Outcome Fate) → nextOf r x .epoch ≡ r .epoch
+epoch-stays r (done f) = refl
+epoch-stays r (refused n) = refl
+
+pub handed-on : (r : Receiver) → plus (r .epoch) < 2 ^ 63 → minus (r .epoch) ≤ 2 ^ 63 → (piece : List ℕ) (room n : ℕ) (state : List ℕ) (rows new : List (List ℤ)) (count many : ℕ)
+    → FeedCells (feedOf builtin (receiverIn (stateOf r)) piece room) n (stateOf r) state rows new count many
+    → (state ≡ stateOf (nextOf r (feedOf builtin r piece room))) × (nextOf r (feedOf builtin r piece room) .epoch ≡ r .epoch)
+handed-on r low high piece room n state rows new count many h =
+    let x = feedOf builtin r piece room in
+    (h .octets ∙ ap (λ (q : Receiver). cell (λ (f : Fate). stateOf (nextOf q (done f))) (feedOf builtin q piece room) (stateOf r)) (given-back r low high) ∙ held-after r x, epoch-stays r x)
 
 -- ---- a making, and a piece, into their cells
 module _ (state : List ℕ) where
