@@ -318,7 +318,8 @@ fn rooms_of_all_kinds() {
     tally.assert_each_over(&[(0, 10_000), (8, 2_000)]);
 }
 
-/// Every room for pieces that complete none to five T-fields, whatever is pending and whatever is left.
+/// Every room, up to a row more than is asked for, for pieces that complete none to six T-fields, whatever is pending and
+/// whatever is left.
 #[test]
 fn every_room() {
     let (mut rng, mut tally, moments) = (Rng::new(97), Tally::default(), Moments::new());
@@ -328,7 +329,7 @@ fn every_room() {
         for pending in 0..width {
             for to in pending..=run.bytes.len() {
                 let needed = to / width;
-                for room in [0, needed.saturating_sub(1), needed, needed + 1] {
+                for room in 0..=needed + 1 {
                     let mut state = made(p, run.epoch);
                     let held = &run.bytes[..pending];
                     let none = compare(&mut rng, &mut Tally::default(), &mut state, held, 0);
