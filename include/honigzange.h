@@ -339,7 +339,7 @@ uint8_t hz_write_binary(int64_t sec, uint64_t ticks, bool front, uint8_t p, int6
  * which is 2016-12-31T23:59:60, and 54 2D are pending.
  */
 
-/* A receiver: octets alone, without gaps. It may be copied and kept anywhere, and a copy goes on where it was made. */
+/* A receiver: 22 octets, without gap or pointer. It may be copied and kept anywhere, and a copy goes on as it does. */
 typedef struct hz_receiver {
     uint8_t p;           /* the P octet */
     uint8_t epoch[8];    /* the epoch, signed, big-endian */
