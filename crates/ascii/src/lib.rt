@@ -1,4 +1,6 @@
 // ASCII time codes A and B: how they are laid out, and how they are read, bytes to a moment of UTC. No table is asked.
+#![tactic(auto)]
+
 ghost use Rattle.std.specs.Prelude.{◌≡◌, cond, ◌+◌, ◌-◌, ◌^◌, ◌≤◌, length};
 ghost use Rattle.base.specs.Outcome.{need, given};
 ghost use Rattle.scale.specs.Time.{per_second};
@@ -8,23 +10,23 @@ ghost use Rattle.clock.specs.Answers.{says_clock};
 ghost use Rattle.moment.specs.Decimal.{ticks_of};
 ghost use Rattle.moment.specs.Moment.{says_moment};
 ghost use Rattle.ascii.specs.Ascii.{
-  isLayout,
-  frontOf,
-  partSize,
+  is_layout,
+  front_of,
+  part_size,
   bit,
   width,
-  layoutOf,
+  layout_of,
   number_at,
-  dayAt,
-  clockAt,
+  day_at,
+  clock_at,
   fields_of,
   text,
 };
 ghost use Rattle.ascii.specs.Inner.{
-  readAs,
-  figuresAt,
-  dateFigures,
-  clockFigures,
+  read_as,
+  figures_at,
+  date_figures,
+  clock_figures,
   figures,
   separators,
   Placed,
@@ -39,7 +41,7 @@ use scale::Record;
 
 // How a code is laid out: form B, with the day of the year, or form A, with month and day; so many digits of
 // fraction; with Z.
-#[derive(Drop)]
+#[derive(Clone, Copy)]
 pub struct Layout {
     pub ordinal: bool,
     pub digits: usize,

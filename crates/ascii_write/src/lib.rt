@@ -1,4 +1,6 @@
 // ASCII time codes A and B, written: a moment of UTC to bytes. No table is asked.
+#![tactic(auto)]
+
 ghost use Rattle.std.specs.Prelude.{◌≡◌, true, false, ◌+◌, ◌≤◌, ◌<◌, length};
 ghost use Rattle.base.specs.Outcome.{and_then};
 ghost use Rattle.scale.specs.Time.{per_second};
@@ -6,16 +8,16 @@ ghost use Rattle.octets.specs.Places.{digits};
 ghost use Rattle.octets.specs.Stores.{pasted};
 ghost use Rattle.octets.specs.Writes.{roomed, Wrote};
 ghost use Rattle.ascii.specs.Ascii.{
-  frontOf,
-  partSize,
+  front_of,
+  part_size,
   bit,
   width,
   lead,
-  dayText,
-  clockText,
-  fractionText,
-  zoneText,
-  codeText,
+  day_text,
+  clock_text,
+  fraction_text,
+  zone_text,
+  code_text,
   part_of,
   bytes_of,
 };

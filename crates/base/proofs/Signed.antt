@@ -194,7 +194,7 @@ signed_bits (pos n) p m = cond_yes _ _ (lt-ltb n (2 ^ 63) p)
 signed_bits (negsuc n) p m = cond_no _ _ (le-ltb (2 ^ 64 - suc n) (2 ^ 63) (omega arith)) ∙ same (sub_ℕ (2 ^ 64 - suc n) (2 ^ 64)) (negsuc n) (omega (arith, less (2 ^ 64 - suc n) (2 ^ 64)))
 
 -- at another bias
-pub at_more : (B K n : ℕ) (z : ℤ) → At B n z → at (B + K) (n + K) z
+pub at_more : (B K n : ℕ) (z : ℤ) → At B n z → At (B + K) (n + K) z
 at_more B K n z e = omega arith
 
 -- and a test of raised numbers is the test of the integers
@@ -235,7 +235,7 @@ floor_rest (negsuc n) k h =
     (omega (arith, line (negsuc (n / k)) k (k - suc (n % k)), suc-mul (n / k) k, zero-mul k, div-add-mod' n k, mod-lt n h))
 
 -- in unsigned arithmetic: raised by a multiple of k, the quotient is raised by that many, and the remainder is the same
-pub floor_at : (B k n : ℕ) (z q : ℤ) → 0 < k → at (B * k) n z → At B (n / k) q → (floor z k ≡ q) × (rest z k ≡ n % k)
+pub floor_at : (B k n : ℕ) (z q : ℤ) → 0 < k → At (B * k) n z → At B (n / k) q → (floor z k ≡ q) × (rest z k ≡ n % k)
 floor_at B k n z q h e f =
     (ap (λ (x : ℤ). floor x k) z_is ∙ (floor_line k q (n % k) (mod-lt n h)).0, ap (λ (x : ℤ). rest x k) z_is ∙ (floor_line k q (n % k) (mod-lt n h)).1)
   where

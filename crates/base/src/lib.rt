@@ -1,11 +1,13 @@
 // What every crate stands on: the refusals of documents 01 and 02, and signed numbers carried to unsigned ones and back.
+#![tactic(auto)]
+
 ghost use Rattle.std.specs.Prelude.{◌≡◌, ◌^◌};
 ghost use Rattle.base.specs.Refusals.{number};
 ghost use Rattle.base.specs.Parts.{At, within, bits_of, signed_of};
 ghost use Rattle.base.specs.Seats.{seat_of};
 
 // Why a call is refused, in the order of the numbers: 1 to 9 of document 01, 10 and 11 of document 02.
-#[derive(Drop)]
+#[derive(Clone, Copy)]
 pub enum Refusal {
     Short,
     Identification,
@@ -102,7 +104,7 @@ pub fn between(lo: i64, hi: i64, z: i64) -> bool
 }
 
 // A number's place in a range, counted from the range's start.
-#[derive(Drop)]
+#[derive(Clone, Copy)]
 pub enum Seat {
     In(u64),
     Out,

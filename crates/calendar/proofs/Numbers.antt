@@ -10,10 +10,10 @@ use Rattle.base.proofs.Ladders.{need_yes, need_no, need_done, then_done, given_d
 use Rattle.base.proofs.Signed.{same, less, sum, apart, abs_is, within_low, within_yes}
 use Rattle.calendar.specs.Gregorian.{from_epoch, index_of_day}
 
-pub number_at_lem : (n : ℕ) → at 714779 n (from_epoch n)
+pub number_at_lem : (n : ℕ) → At 714779 n (from_epoch n)
 number_at_lem n = omega (arith, less n 714779)
 
-pub index_at : (n : ℕ) (z : ℤ) → at 714779 n z → n ≤ 3652058 → index_of_day z ≡ done n
+pub index_at : (n : ℕ) (z : ℤ) → At 714779 n z → n ≤ 3652058 → index_of_day z ≡ done n
 unfolding index_of_day
 index_at n z e h =
     need_yes 7 _ (within_yes (negsuc 714778) (pos 2937279) z (omega arith) (omega arith))

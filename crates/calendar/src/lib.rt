@@ -1,38 +1,40 @@
 // The Gregorian calendar, years 1 to 9999: dates, days of the year and day numbers.
 // A day is counted by its index, from 0001-01-01 on, or by its day number, from 1958-01-01 on.
+#![tactic(auto)]
+
 ghost use Rattle.std.specs.Prelude.{◌≡◌, true, ℕ, ◌≤◌, ◌<◌, get_or};
 ghost use Rattle.base.specs.Outcome.{done, given};
 ghost use Rattle.calendar.specs.Gregorian.{
   kind,
-  yearLength,
-  yearStart,
-  yearsTo,
+  year_length,
+  year_start,
+  years_to,
   row,
   up_to,
-  monthLength,
-  isYear,
-  isDate,
-  isOrdinal,
-  dayIndex,
-  ordinalOn,
-  dateIn,
-  indexOfDate,
-  indexOfOrdinal,
-  ordinalAt,
-  dateAt,
-  fromEpoch,
-  indexOfDay,
-  dayOfDate,
-  dayOfOrdinal,
-  dateOfDay,
-  ordinalOfDay,
+  month_length,
+  is_year,
+  is_date,
+  is_ordinal,
+  day_index,
+  ordinal_on,
+  date_in,
+  index_of_date,
+  index_of_ordinal,
+  ordinal_at,
+  date_at,
+  from_epoch,
+  index_of_day,
+  day_of_date,
+  day_of_ordinal,
+  date_of_day,
+  ordinal_of_day,
 };
 ghost use Rattle.calendar.specs.Answers.{says_index, says_day, says_date, says_ordinal};
 
 use base::{Refusal, Seat};
 
 // A day by year, month (1 to 12) and day of the month.
-#[derive(Drop)]
+#[derive(Clone, Copy)]
 pub struct Date {
     pub year: u64,
     pub month: u64,
@@ -40,31 +42,31 @@ pub struct Date {
 }
 
 // A day by year and day of the year (1 for 1 January).
-#[derive(Drop)]
+#[derive(Clone, Copy)]
 pub struct Ordinal {
     pub year: u64,
     pub day: u64,
 }
 
-#[derive(Drop)]
+#[derive(Clone, Copy)]
 pub enum IndexAnswer {
     Done(u64),
     Refused(Refusal),
 }
 
-#[derive(Drop)]
+#[derive(Clone, Copy)]
 pub enum DayAnswer {
     Done(i64),
     Refused(Refusal),
 }
 
-#[derive(Drop)]
+#[derive(Clone, Copy)]
 pub enum DateAnswer {
     Done(Date),
     Refused(Refusal),
 }
 
-#[derive(Drop)]
+#[derive(Clone, Copy)]
 pub enum OrdinalAnswer {
     Done(Ordinal),
     Refused(Refusal),

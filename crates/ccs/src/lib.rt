@@ -1,5 +1,7 @@
 // CCS, the calendar segmented time code: its T-field, read to a moment of UTC and written from one. Crates above read the
 // P octet and apply the table of leap seconds.
+#![tactic(auto)]
+
 ghost use Rattle.std.specs.Prelude.{◌≡◌, ◌++◌, ◌+◌, ◌≤◌, length};
 ghost use Rattle.base.specs.Outcome.{done, and_then, given};
 ghost use Rattle.calendar.specs.Answers.{says_index, says_day};
@@ -16,7 +18,7 @@ use moment::{Moment, MomentAnswer};
 use octets::{Counted, Written};
 
 // How a T-field is laid out: by the day of the year or by month and day, and its extra segments, 0 to 6.
-#[derive(Drop)]
+#[derive(Clone, Copy)]
 pub struct Layout {
     pub ordinal: bool,
     pub segments: usize,

@@ -1,5 +1,7 @@
 // CDS, the day segmented code: a T-field is the day from an epoch day, the millisecond of the day and a part of the
 // millisecond, in UTC. Its reading and its writing; whether the leap second table has such a second is judged above.
+#![tactic(auto)]
+
 ghost use Rattle.std.specs.Prelude.{◌≡◌, true, ◌+◌, ◌≤◌, ◌<◌, ◌^◌, length};
 ghost use Rattle.base.specs.Outcome.{and_then};
 ghost use Rattle.moment.specs.Moment.{is_moment, says_moment};
@@ -15,7 +17,7 @@ use octets::{Counted, Written};
 use scale::Record;
 
 // The epoch day, the octets of the day (2 or 3) and the octets of the part of a millisecond (0, 2 or 4).
-#[derive(Drop)]
+#[derive(Clone, Copy)]
 pub struct Layout {
     pub epoch: i64,
     pub day: usize,

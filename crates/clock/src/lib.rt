@@ -1,4 +1,6 @@
 // The clock of a UTC day: hh:mm:ss, and the second of the day that it shows. 23:59:60 is second 86,400.
+#![tactic(auto)]
+
 ghost use Rattle.std.specs.Prelude.{◌≡◌};
 ghost use Rattle.clock.specs.Clock.{clock_ok, clock_of, minute_of};
 ghost use Rattle.clock.specs.Answers.{says_clock};
@@ -6,7 +8,7 @@ ghost use Rattle.clock.specs.Answers.{says_clock};
 use base::Refusal;
 
 // A second of a day.
-#[derive(Drop)]
+#[derive(Clone, Copy)]
 pub enum ClockAnswer {
     Done(u64),
     Refused(Refusal),

@@ -1,5 +1,7 @@
 // All codes: the binary ones CUC, CDS and CCS read from bytes and written into lent ones; ASCII in the module text,
 // settings in the module setting. Here the UTC codes meet the leap second table.
+#![tactic(auto)]
+
 pub mod setting;
 pub mod text;
 
@@ -22,14 +24,14 @@ use pfield::{Codes, Head, Layout, LayoutAnswer, PField, Preamble};
 use scale::{Record, RecordAnswer};
 
 // A moment and how many bytes its code takes.
-#[derive(Drop)]
+#[derive(Clone, Copy)]
 pub enum ScanAnswer {
     Done(Record, usize),
     Refused(Refusal),
 }
 
 // The answer, and the part of the caller's bytes that follows the code: all of them when refused.
-#[derive(Drop)]
+#[derive(Clone, Copy)]
 pub struct Taken<'a> {
     pub answer: ScanAnswer,
     pub rest: &'a [u8],

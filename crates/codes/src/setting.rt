@@ -9,7 +9,7 @@ use pfield::PField;
 use scale::Record;
 
 // A P-field with epoch and whether it is written, or the layout of an ASCII code.
-#[derive(Drop)]
+#[derive(Clone, Copy)]
 pub enum Setting {
     Binary { p: PField, epoch: i64, front: bool },
     Ascii(ascii::Layout),

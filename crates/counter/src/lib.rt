@@ -1,5 +1,7 @@
 // A counter with a period: what it names inside a window, listed. Seconds are raised by 2^41, so that a record's are
 // natural numbers.
+#![tactic(auto)]
+
 ghost use Rattle.std.specs.Prelude.{◌≡◌, map, ◌+◌, ◌*◌, ◌^◌, ◌≤◌, ◌<◌};
 ghost use Rattle.base.specs.Outcome.{done};
 ghost use Rattle.base.specs.Parts.{lowered_by};

@@ -1,5 +1,7 @@
 // The T-field of CUC, the unsegmented binary time code: a big-endian count from an epoch, read and written. Its coarse
 // octets count whole seconds and its fine ones parts of a second: two counts, each of which fits a u64.
+#![tactic(auto)]
+
 ghost use Rattle.std.specs.Prelude.{◌≡◌, true, ◌+◌, ◌<◌, ◌≤◌, ◌^◌, length};
 ghost use Rattle.base.specs.Outcome.{and_then};
 ghost use Rattle.scale.specs.Time.{is_record};
@@ -15,7 +17,7 @@ use octets::{Counted, Written};
 use scale::{Record, RecordAnswer};
 
 // The epoch that a count is from, in whole TAI seconds, and the octets of its whole seconds and of its fraction.
-#[derive(Drop)]
+#[derive(Clone, Copy)]
 pub struct Layout {
     pub epoch: i64,
     pub coarse: usize,

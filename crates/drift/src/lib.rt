@@ -1,4 +1,6 @@
 // Drift: the exact rate between two pairs of an onboard and a ground record, and the extremes over a run of pairs.
+#![tactic(auto)]
+
 ghost use Rattle.std.specs.Prelude.{◌≡◌, [], map, ◌<◌, ◌≤◌, ◌*◌, ltb, pos, nat_abs, ◌*ℤ◌, length, get_or};
 ghost use Rattle.std.specs.Int.{◌∣◌};
 ghost use Rattle.base.specs.Outcome.{done};
@@ -17,25 +19,25 @@ ghost use Rattle.drift.specs.Inner.{
   apart,
   most,
   least,
-  quotientIn,
-  overOf,
+  quotient_in,
+  over_of,
   Few,
   Quotes,
-  saysQuotient,
+  says_quotient,
   Ratio,
   ratio,
   Parts,
   Parted,
-  ratioOf,
-  beatsBy,
+  ratio_of,
+  beats_by,
   kept,
-  saysBest,
+  says_best,
   Sound,
   Room,
   Keeps,
-  saysTally,
+  says_tally,
   noted_of,
-  noneOf,
+  none_of,
   Notes,
   Greatest,
 };
@@ -44,34 +46,34 @@ use base::{Refusal, Seat};
 use scale::Record;
 
 // An onboard record, and the ground record that it is paired with.
-#[derive(Drop)]
+#[derive(Clone, Copy)]
 pub struct Pair {
     pub onboard: Record,
     pub ground: Record,
 }
 
 // Onboard elapsed over ground elapsed, in lowest terms: 0 is 0/1.
-#[derive(Drop)]
+#[derive(Clone, Copy)]
 pub struct Rate {
     pub num: i64,
     pub den: u64,
 }
 
-#[derive(Drop)]
+#[derive(Clone, Copy)]
 pub enum RateAnswer {
     Done(Rate),
     Refused(Refusal),
 }
 
 // A rate of a run, and its first place among all neighbouring twos, from 0.
-#[derive(Drop)]
+#[derive(Clone, Copy)]
 pub enum Extreme {
     Nothing,
     At(usize, Rate),
 }
 
 // Over the neighbouring twos of a run: how many have a rate, how many are refused 7, 10 and 11, and the extremes.
-#[derive(Drop)]
+#[derive(Clone, Copy)]
 pub struct Report {
     pub rates: usize,
     pub range: usize,
@@ -134,7 +136,7 @@ fn pair_at(run: &[[i64; 4]], i: usize) -> Pair
 }
 
 // What a run has come to so far. Its extremes are lowered only when they are told.
-#[derive(Drop)]
+#[derive(Clone, Copy)]
 struct Tally {
     rates: usize,
     range: usize,
@@ -144,7 +146,7 @@ struct Tally {
     largest: Best,
 }
 
-#[derive(Drop)]
+#[derive(Clone, Copy)]
 enum Best {
     Nothing,
     At(usize, Mixed),
@@ -269,14 +271,14 @@ const LIMIT: u64 = 4_294_967_296;
 const MOST: u64 = LIMIT * STEPS - 1;
 
 // A record's seconds, raised by 2^63, and its whole steps of the grid after them.
-#[derive(Drop)]
+#[derive(Clone, Copy)]
 struct Mark {
     sec: u64,
     steps: u64,
 }
 
 // A pair: whether both are records, whether both are on the grid, and where they stand.
-#[derive(Drop)]
+#[derive(Clone, Copy)]
 struct Judged {
     valid: bool,
     gridded: bool,
@@ -319,7 +321,7 @@ fn marked(r: Record) -> Mark
 }
 
 // The quotient of two elapsed times, in steps: onboard, raised by MOST, over ground; or why there is none.
-#[derive(Drop)]
+#[derive(Clone, Copy)]
 enum Quotient {
     Of(u64, u64),
     OutOfRange,
@@ -392,7 +394,7 @@ fn elapsed(x: Mark, y: Mark) -> Seat
 }
 
 // A quotient with its whole part, taken downward and raised by MOST, and what is left of the onboard steps above that.
-#[derive(Drop)]
+#[derive(Clone, Copy)]
 struct Mixed {
     onboard: u64,
     ground: u64,

@@ -1,10 +1,12 @@
 // Fields and their rules: where the first field of a date or a clock that breaks its rule begins.
+#![tactic(auto)]
+
 ghost use Rattle.std.specs.Prelude.{◌≡◌};
 ghost use Rattle.field.specs.Fields.{first_bad, offset};
 ghost use Rattle.field.specs.Rules.{date_fields, ordinal_fields, clock_fields};
 
 // Where a bad field begins.
-#[derive(Drop)]
+#[derive(Clone, Copy)]
 pub enum Place {
     At(usize),
     Nowhere,
@@ -23,7 +25,7 @@ impl Place {
 }
 
 // Where three fields begin, in their order.
-#[derive(Drop)]
+#[derive(Clone, Copy)]
 pub struct Starts {
     pub first: usize,
     pub second: usize,

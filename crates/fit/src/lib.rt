@@ -1,4 +1,6 @@
 // Whether a text has a permitted shape, and where it has none, how far its longest start goes that begins one.
+#![tactic(auto)]
+
 ghost use Rattle.std.specs.Prelude.{◌≡◌, true, ◌<◌};
 ghost use Rattle.ascii.specs.Shapes.{code_shapes};
 ghost use Rattle.tag.specs.Forms.{tag_shapes};
@@ -6,7 +8,7 @@ ghost use Rattle.fit.specs.Fit.{fit_of};
 ghost use Rattle.fit.specs.Inner.{column_of, is_start, permitted, right};
 
 // A text of one of the shapes, or the length of its longest start that begins one.
-#[derive(Drop)]
+#[derive(Clone, Copy)]
 pub enum Fit {
     Right,
     Wrong(usize),

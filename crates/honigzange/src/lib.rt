@@ -1,4 +1,6 @@
 // The C interface: each call answers 0 or the number of a refusal, and writes behind its pointers only when it answers 0.
+#![tactic(auto)]
+
 mod answers;
 mod binaries;
 mod calendars;

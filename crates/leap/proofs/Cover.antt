@@ -30,7 +30,7 @@ fails true f = f refl
 fails false f = refl
 
 -- ---- TAI seconds
-pub seconds_in : (z : ℤ) (n : ℕ) → seat_of (pos first_second) (pos last_second) z ≡ In n → (at second_raise (n + first_raised) z) × (n + first_raised < past_raised)
+pub seconds_in : (z : ℤ) (n : ℕ) → seat_of (pos first_second) (pos last_second) z ≡ In n → (At second_raise (n + first_raised) z) × (n + first_raised < past_raised)
 seconds_in z n e = let s = seat_in_lem (pos first_second) (pos last_second) z n e in (omega (arith, s.place), omega (arith, s.place, s.high))
 
 pub reading_in : (z : ℤ) (n : ℕ) → seat_of (pos first_second) (pos last_second) z ≡ In n → reading_of builtin z ≡ done (reading builtin (day_holding builtin (n + first_raised)) (n + first_raised - start builtin (day_holding builtin (n + first_raised))))
@@ -40,7 +40,7 @@ reading_in z n e =
     ap (λ (x : Outcome ℕ). and_then x (reading_at builtin)) (raise_at second_raise (n + first_raised) z a)
     ∙ reading_done builtin (n + first_raised) (second_in_lem (n + first_raised) (omega arith) h)
 
-uncovered_second : (z : ℤ) (n : ℕ) → within (pos first_second) (pos last_second) z ≡ false → at second_raise n z → covers_second builtin n ≡ false
+uncovered_second : (z : ℤ) (n : ℕ) → within (pos first_second) (pos last_second) z ≡ false → At second_raise n z → covers_second builtin n ≡ false
 uncovered_second z n w a =
     fails (covers_second builtin n) (λ c.
     let (p, q) = and_true (leb first_raised n) (ltb n past_raised) (sym (covered_seconds n) ∙ c) in
@@ -53,10 +53,10 @@ reading_out z e =
     (λ n a. reading_uncovered builtin n (uncovered_second z n (seat_out (pos first_second) (pos last_second) z e) a))
 
 -- ---- UTC days
-pub days_in : (z : ℤ) (n : ℕ) → seat_of (pos first_day) (pos last_day) z ≡ In n → (at day_raise (n + first_index) z) × (n ≤ last_day - first_day)
+pub days_in : (z : ℤ) (n : ℕ) → seat_of (pos first_day) (pos last_day) z ≡ In n → (At day_raise (n + first_index) z) × (n ≤ last_day - first_day)
 days_in z n e = let s = seat_in_lem (pos first_day) (pos last_day) z n e in (omega (arith, s.place), omega (arith, s.place, s.high))
 
-uncovered_day : (z : ℤ) (n : ℕ) → within (pos first_day) (pos last_day) z ≡ false → at day_raise n z → covers builtin n ≡ false
+uncovered_day : (z : ℤ) (n : ℕ) → within (pos first_day) (pos last_day) z ≡ false → At day_raise n z → covers builtin n ≡ false
 uncovered_day z n w a =
     fails (covers builtin n) (λ c.
     let (p, q) = and_true (leb first_index n) (leb n last_index) (sym (covered_days n) ∙ c) in

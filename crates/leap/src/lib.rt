@@ -1,6 +1,8 @@
 // The leap second table: the UTC reading of a TAI second, and back. Inside, a day is its index, counted from
 // 0001-01-01, an offset is raised by 64, and a TAI second is raised by both, so that a day begins at
 // day * 86400 + offset.
+#![tactic(auto)]
+
 ghost use Rattle.std.specs.Prelude.{◌≡◌, ◌-◌, ◌≤◌, ◌<◌};
 ghost use Rattle.leap.specs.Table.{start, day_holding, reading, second_at, reading_at, day_on, day_at};
 ghost use Rattle.leap.specs.Utc.{reading_of, second_of, utc_of_second, second_of_utc};
@@ -11,14 +13,14 @@ ghost use Rattle.leap.specs.Inner.{row_at, end_at, Small, OnDay, InSecond};
 use base::{Refusal, Seat};
 
 // A day and TAI minus UTC from it on.
-#[derive(Drop)]
+#[derive(Clone, Copy)]
 pub struct Row {
     pub day: u64,
     pub offset: u64,
 }
 
 // A day, a second of it (86,400 is 23:59:60), and the day's offset.
-#[derive(Drop)]
+#[derive(Clone, Copy)]
 pub struct Reading {
     pub day: u64,
     pub second: u64,
@@ -26,7 +28,7 @@ pub struct Reading {
 }
 
 // The same of signed numbers: the day counted from 1958-01-01, and TAI minus UTC.
-#[derive(Drop)]
+#[derive(Clone, Copy)]
 pub struct Utc {
     pub day: i64,
     pub second: u64,
@@ -34,38 +36,38 @@ pub struct Utc {
 }
 
 // The raised TAI second in which a day begins, and how many seconds the day has.
-#[derive(Drop)]
+#[derive(Clone, Copy)]
 pub struct Day {
     pub start: u64,
     pub length: u64,
 }
 
-#[derive(Drop)]
+#[derive(Clone, Copy)]
 pub enum ReadingAnswer {
     Done(Reading),
     Refused(Refusal),
 }
 
-#[derive(Drop)]
+#[derive(Clone, Copy)]
 pub enum UtcAnswer {
     Done(Utc),
     Refused(Refusal),
 }
 
 // A raised TAI second.
-#[derive(Drop)]
+#[derive(Clone, Copy)]
 pub enum RaisedAnswer {
     Done(u64),
     Refused(Refusal),
 }
 
-#[derive(Drop)]
+#[derive(Clone, Copy)]
 pub enum SecondAnswer {
     Done(i64),
     Refused(Refusal),
 }
 
-#[derive(Drop)]
+#[derive(Clone, Copy)]
 pub enum CoveredDay {
     Done(Day),
     Refused(Refusal),

@@ -1,4 +1,6 @@
 // Lines of standard input, each a full ASCII code, answered one by one.
+#![tactic(auto)]
+
 ghost use Rattle.std.specs.Prelude.{◌≡◌, [], ◌++◌, ◌+◌, ◌-◌, ◌≤◌, min, length, drop, take, get_or};
 ghost use Rattle.base.specs.Outcome.{refused};
 ghost use Rattle.base.specs.Refusals.{number};
@@ -18,14 +20,14 @@ use octets::Written;
 use scale::{Record, RecordAnswer};
 
 // The line so far: the first len of bytes, its first 65 at most.
-#[derive(Drop)]
+#[derive(Clone, Copy)]
 pub struct Line {
     pub bytes: [u8; 65],
     pub len: usize,
 }
 
 // What a piece came to: the line so far, the bytes written, and how many bytes of the piece were used.
-#[derive(Drop)]
+#[derive(Clone, Copy)]
 pub struct Fed {
     pub line: Line,
     pub wrote: usize,

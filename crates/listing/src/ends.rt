@@ -9,7 +9,7 @@ use base::Refusal;
 use scale::Record;
 
 // The seconds, raised by 2^41, from which on and before which a moment with the tick count is in the window.
-#[derive(Drop)]
+#[derive(Clone, Copy)]
 pub enum Ends {
     At(u64, u64),
     Refused(Refusal),

@@ -1,4 +1,6 @@
 // Shortened tags: the moments that a tag names in a window of records, listed.
+#![tactic(auto)]
+
 mod ends;
 mod periodic;
 

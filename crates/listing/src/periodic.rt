@@ -7,7 +7,7 @@ use base::Refusal;
 use pfield::{Codes, Head, Layout, Preamble};
 use scale::{Record, RecordAnswer};
 
-#[derive(Drop)]
+#[derive(Clone, Copy)]
 pub enum Periodic {
     Done(Record, u64),
     Refused(Refusal),

@@ -1,4 +1,6 @@
 // A moment of UTC before any table: what the fields of CDS, CCS and ASCII name.
+#![tactic(auto)]
+
 ghost use Rattle.std.specs.Prelude.{◌≡◌, ◌/◌, ◌^◌};
 ghost use Rattle.scale.specs.Time.{per_second};
 ghost use Rattle.moment.specs.Moment.{is_moment};
@@ -7,14 +9,14 @@ use base::Refusal;
 use scale::Record;
 
 // A day counted from 1958-01-01, a second of it (86,400 is 23:59:60), and ticks of that second.
-#[derive(Drop)]
+#[derive(Clone, Copy)]
 pub struct Moment {
     pub day: i64,
     pub second: u64,
     pub ticks: u64,
 }
 
-#[derive(Drop)]
+#[derive(Clone, Copy)]
 pub enum MomentAnswer {
     Done(Moment),
     Refused(Refusal),

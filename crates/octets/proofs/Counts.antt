@@ -43,8 +43,8 @@ module _ {b : ℕ} {v : ℕ → ℕ} {ok : ℕ → Bool} {widest : ℕ} {s : Lis
 
   -- the elements are those that write the number
   pub read_text : {p : ℕ → ℕ} → Rule b v p ok → take i (drop at s) ≡ places b p i n
-  read_text rule =
-      sym (ap (places b _ i) r.is ∙ places_number rule (drop at s) i (let z : i ≤ length (drop at s) = simp length-drop (omega arith) in z) r.good)
+  read_text {p = p} rule =
+      sym (ap (places b p i) r.is ∙ places_number rule (drop at s) i (let z : i ≤ length (drop at s) = simp length-drop (omega arith) in z) r.good)
 
 module _ (b : ℕ) (v : ℕ → ℕ) (ok : ℕ → Bool) (widest : ℕ) (s : List ℕ) (at w : ℕ) where
   pub gives_out : leb w widest && leb (at + w) (length s) ≡ false → Out ≡ count_of b v ok widest s at w

@@ -1,4 +1,6 @@
 // Big-endian counts, BCD octets and decimal digits, read from bytes and stored into them.
+#![tactic(auto)]
+
 ghost use Rattle.std.specs.Prelude.{◌≡◌, ◌&&◌, ◌+◌, leb};
 ghost use Rattle.octets.specs.Places.{octets, bcd, digits};
 ghost use Rattle.octets.specs.Counts.{count_at, bcd_at, decimal_at};
@@ -8,7 +10,7 @@ ghost use Rattle.octets.specs.Powers.{power_in};
 use base::Refusal;
 
 // What reading a number answers: the number; an element breaks its rule; or the bytes run out or the width is over the widest.
-#[derive(Drop)]
+#[derive(Clone, Copy)]
 pub enum Counted {
     Done(u64),
     Bad,
@@ -16,7 +18,7 @@ pub enum Counted {
 }
 
 // What writing a code answers: where it ends, or why it was refused.
-#[derive(Drop)]
+#[derive(Clone, Copy)]
 pub enum Written {
     Done(usize),
     Refused(Refusal),

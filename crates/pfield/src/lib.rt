@@ -1,4 +1,6 @@
 // The P-field: where it stands, which codes it may name, and the layout that it gives. Nothing else looks at its bits.
+#![tactic(auto)]
+
 ghost use Rattle.std.specs.Prelude.{◌≡◌};
 ghost use Rattle.base.specs.Outcome.{given};
 ghost use Rattle.pfield.specs.PField.{ident, allows, laid, laid_as, cuc_laid, cds_laid, ccs_laid, headed, headed_of};
@@ -7,41 +9,41 @@ ghost use Rattle.pfield.specs.Answers.{says_layout, says_head};
 use base::Refusal;
 
 // A P-field as it is written: its one octet.
-#[derive(Drop)]
+#[derive(Clone, Copy)]
 pub struct PField {
     pub octet: u8,
 }
 
 // Where the P-field is: in front of the bytes, or supplied apart.
-#[derive(Drop)]
+#[derive(Clone, Copy)]
 pub enum Preamble {
     Front,
     Given(PField),
 }
 
 // The identifications that are allowed: those of all codes, or CUC's alone, as in a listing.
-#[derive(Drop)]
+#[derive(Clone, Copy)]
 pub enum Codes {
     All,
     Cuc,
 }
 
 // What a P-field and the caller's epoch say of the T-field.
-#[derive(Drop)]
+#[derive(Clone, Copy)]
 pub enum Layout {
     Cuc(cuc::Layout),
     Cds(cds::Layout),
     Ccs(ccs::Layout),
 }
 
-#[derive(Drop)]
+#[derive(Clone, Copy)]
 pub enum LayoutAnswer {
     Done(Layout),
     Refused(Refusal),
 }
 
 // A layout, and where the T-field starts.
-#[derive(Drop)]
+#[derive(Clone, Copy)]
 pub enum Head {
     Done(Layout, usize),
     Refused(Refusal),

@@ -1,19 +1,21 @@
 // Where the first bad field of an input begins, which is what a refusal 4 carries. Nothing here is asked of an input that
 // is read.
+#![tactic(auto)]
+
 ghost use Rattle.std.specs.Prelude.{◌≡◌, true, ◌+◌, ◌≤◌, length};
 ghost use Rattle.field.specs.Fields.{first_bad};
 ghost use Rattle.cds.specs.Cds.{is_width};
 ghost use Rattle.place.specs.Binary.{
-  cdsFields,
-  dateIn,
-  clockIn,
-  segmentsIn,
-  ccsFields,
+  cds_fields,
+  date_in,
+  clock_in,
+  segments_in,
+  ccs_fields,
   fields_at,
   place_in,
-  endField,
-  binaryPlace,
-  cucTagPlace,
+  end_field,
+  binary_place,
+  cuc_tag_place,
 };
 ghost use Rattle.place.specs.Text.{text_place, tag_place};
 ghost use Rattle.place.specs.Inner.{number_of};

@@ -1,4 +1,6 @@
 // A receiver of T-fields under one P-field and epoch, fed by pieces that are cut anywhere.
+#![tactic(auto)]
+
 ghost use Rattle.std.specs.Prelude.{◌≡◌, [], ◌++◌, ◌+◌, ◌*◌, ◌/◌, ◌≤◌, ◌<◌, length, take, drop, get_or};
 ghost use Rattle.leap.specs.Builtin.{builtin};
 ghost use Rattle.pfield.specs.Answers.{says_layout};
@@ -14,7 +16,7 @@ use scale::RecordAnswer;
 
 // The first count octets of pending are those of an unfinished T-field, and the others are 0. The longest T-field has one
 // octet more than there is room for.
-#[derive(Drop)]
+#[derive(Clone, Copy)]
 pub struct Receiver {
     pub p: PField,
     pub epoch: i64,
@@ -23,21 +25,21 @@ pub struct Receiver {
 }
 
 // How many T-fields were answered.
-#[derive(Drop)]
+#[derive(Clone, Copy)]
 pub enum FeedAnswer {
     Done(usize),
     Refused(Refusal),
 }
 
 // A call's answer, and the receiver for the next call.
-#[derive(Drop)]
+#[derive(Clone, Copy)]
 pub struct Fed {
     pub answer: FeedAnswer,
     pub next: Receiver,
 }
 
 // What a receiver holds of an unfinished T-field.
-#[derive(Drop)]
+#[derive(Clone, Copy)]
 struct Held {
     bytes: [u8; 12],
     count: usize,

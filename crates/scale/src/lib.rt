@@ -1,4 +1,6 @@
 // The exact scale: records and spans, their difference, shift and order.
+#![tactic(auto)]
+
 ghost use Rattle.std.specs.Prelude.{◌≡◌, ◌^◌};
 ghost use Rattle.base.specs.Parts.{At};
 ghost use Rattle.scale.specs.Time.{is_record, is_span, record_of, span_of, difference_of, shift_of, earlier};
@@ -8,26 +10,26 @@ ghost use Rattle.scale.specs.Inner.{Within, Less, Together};
 use base::Refusal;
 
 // Whole TAI seconds from 1958-01-01T00:00:00 TAI, and ticks of a second.
-#[derive(Drop)]
+#[derive(Clone, Copy)]
 pub struct Record {
     pub sec: i64,
     pub ticks: u64,
 }
 
 // Whole seconds, and ticks that are never negative: minus half a second is -1 s and half a second of ticks.
-#[derive(Drop)]
+#[derive(Clone, Copy)]
 pub struct Span {
     pub sec: i64,
     pub ticks: u64,
 }
 
-#[derive(Drop)]
+#[derive(Clone, Copy)]
 pub enum RecordAnswer {
     Done(Record),
     Refused(Refusal),
 }
 
-#[derive(Drop)]
+#[derive(Clone, Copy)]
 pub enum SpanAnswer {
     Done(Span),
     Refused(Refusal),

@@ -1,5 +1,7 @@
 // Listing the moments of UTC that have wanted fields, by a labelled search through days and fields. A day is its
 // index, and a TAI second is raised as leap raises it.
+#![tactic(auto)]
+
 ghost use Rattle.std.specs.Prelude.{◌≡◌, true, false, ◌&&◌, map, ℕ, ◌-◌, ◌≤◌, ◌<◌, min};
 ghost use Rattle.base.specs.Outcome.{done};
 ghost use Rattle.base.specs.Parts.{lowered_by};
@@ -17,14 +19,14 @@ use leap::{CoveredDay, Day, Reading, ReadingAnswer};
 use window::{Found, Listing};
 
 // What is wanted of a field.
-#[derive(Drop)]
+#[derive(Clone, Copy)]
 pub enum Want {
     Free,
     Is(u64),
 }
 
 // The fields of a date: month and day, or the day of the year.
-#[derive(Drop)]
+#[derive(Clone, Copy)]
 pub struct Calendar {
     pub year: Want,
     pub month: Want,
@@ -32,7 +34,7 @@ pub struct Calendar {
     pub ordinal: Want,
 }
 
-#[derive(Drop)]
+#[derive(Clone, Copy)]
 pub struct Clock {
     pub hour: Want,
     pub minute: Want,
@@ -40,7 +42,7 @@ pub struct Clock {
 }
 
 // The fields that moments are wanted with, and their tick count.
-#[derive(Drop)]
+#[derive(Clone, Copy)]
 pub struct Wants {
     pub calendar: Calendar,
     pub clock: Clock,

@@ -1,4 +1,6 @@
 // Shortened ASCII tags, read to the fields that they want; in the module fields, where a bad one begins.
+#![tactic(auto)]
+
 pub mod fields;
 
 ghost use Rattle.std.specs.Prelude.{◌≡◌, true, ◌+◌, ◌≤◌, ◌<◌, length, drop};
@@ -8,39 +10,39 @@ ghost use Rattle.shape.specs.Shapes.{kind_of, fits};
 ghost use Rattle.tag.specs.Forms.{at, find};
 ghost use Rattle.tag.specs.Tags.{
   want_at,
-  calendarAs,
-  clockAs,
+  calendar_as,
+  clock_as,
   until,
-  fractionAs,
+  fraction_as,
   unzoned,
-  timeIn,
+  time_in,
   alone,
   joined,
   formed,
   or_else,
-  goodDay,
-  goodClock,
-  wantOf,
-  saysTag,
+  good_day,
+  good_clock,
+  want_of,
+  says_tag,
 };
 ghost use Rattle.tag.specs.Inner.{
-  formAt,
+  form_at,
   between,
   found_at,
   Row,
   place_of,
   place_in,
   width_in,
-  saysPart,
-  saysTime,
-  saysParsed,
+  says_part,
+  says_time,
+  says_parsed,
 };
 
 use base::Refusal;
 use octets::Counted;
 use seek::{Calendar, Clock, Want, Wants};
 
-#[derive(Drop)]
+#[derive(Clone, Copy)]
 pub enum TagAnswer {
     Done(Wants),
     Refused(Refusal),
@@ -112,7 +114,7 @@ pub fn read(s: &[u8]) -> TagAnswer
 }
 
 // The fields of a text of permitted form.
-#[derive(Drop)]
+#[derive(Clone, Copy)]
 enum Parsed {
     Good(Wants),
     Bad,
@@ -191,7 +193,7 @@ fn alone(s: &[u8]) -> Parsed
 }
 
 // A clock and a tick count.
-#[derive(Drop)]
+#[derive(Clone, Copy)]
 enum Time {
     Good(Clock, u64),
     Bad,
@@ -233,7 +235,7 @@ fn unzoned(s: &[u8], to: usize) -> Time
 }
 
 // A tick count.
-#[derive(Drop)]
+#[derive(Clone, Copy)]
 enum Part {
     Good(u64),
     Bad,

@@ -1,6 +1,8 @@
 // A program for the gate, which holds what it prints to the file `stdout`. It runs what no call of the C interface does:
 // the reader that hands back the part that follows, settings as one value, and the makers of records and spans.
 // Standard input is binary codes end to end, each behind its P octet.
+#![tactic(auto)]
+
 use codes::ScanAnswer;
 use codes::setting::Setting;
 use octets::Written;

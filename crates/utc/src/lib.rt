@@ -1,4 +1,6 @@
 // The one place where a code meets the leap second table: a moment of UTC and the record that it is.
+#![tactic(auto)]
+
 ghost use Rattle.std.specs.Prelude.{◌≡◌};
 ghost use Rattle.scale.specs.Answers.{recorded, says_record};
 ghost use Rattle.leap.specs.Builtin.{builtin};

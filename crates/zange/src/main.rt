@@ -1,10 +1,12 @@
 // Answers standard input line by line. All that matters is in the library `lines`; this program only moves bytes.
+#![tactic(auto)]
+
 ghost use Rattle.std.specs.Prelude.{◌≡◌, true, ◌<◌};
 
 use lines::Line;
 
 // The line so far, and whether to go on.
-#[derive(Drop)]
+#[derive(Clone, Copy)]
 struct Turn {
     line: Line,
     more: bool,

@@ -1,0 +1,13 @@
+use mathlib.Core.Path.{sym, ◌∙◌}
+use native.Mathlib.Omega.{arith}
+use borrow.Author.Rules.{rules}
+use borrow.Author.Tests.{not-true, not-false}
+use Rattle.octets.specs.Places.{digit_of}
+use Rattle.octets.proofs.Turns.{Write, stay, begin, step, finish}
+use Rattle.octets.proofs.put_decimal.Given as goal
+
+abbrev pub invariant-loop-k : goal.invariant-loop-k
+invariant-loop-k l = Write 10 digit_of l.initial.out l.at l.w l.n l.out l.m l.k
+
+abbrev pub decreases-loop-k : goal.decreases-loop-k
+decreases-loop-k l = l.k
