@@ -1,0 +1,23 @@
+-- Where the whole has room each count has, and the two texts stand one after the other.
+use mathlib.Core.Path.{sym, ◌∙◌}
+use Prim.Native.Nat.{◌+◌, ◌≤◌}
+use native.Mathlib.Omega.{arith}
+use borrow.Author.Rules.{rules}
+use borrow.Author.Tests.{not-true, not-false, leb-true, leb-false}
+use lib.ListN.{length}
+use Rattle.cuc.proofs.Stores.{laid_in, laid_out}
+use Rattle.cuc.proofs.store.Goals.{Else-not-fits}
+use Rattle.cuc.proofs.store.Goals as goal
+
+pub returns-then-not-fits : goal.returns-then-not-fits
+returns-then-not-fits c =
+    let a = c.args in
+    laid_out a.l a.c a.f a.at a.out.now (leb-false _ _ (sym c.fits.ensures ∙ c.if-not-fits.true))
+
+room : (c : Else-not-fits) → let a = c.args in a.at + (a.l.coarse + a.l.fine) ≤ length a.out.now
+room c = leb-true _ _ (sym c.fits.ensures ∙ c.if-not-fits.false)
+
+pub returns : goal.returns
+returns c =
+    let a = c.args in
+    laid_in a.l a.c a.f a.at a.out.now (room (goal.at.returns c).Else-not-fits) c.put_count.ensures c.put_count-2.ensures
