@@ -17,10 +17,10 @@ divisor c = rw c.size.ensures at c.gcd-g.ensures
 pub shrunk-num-requires : goal.shrunk-num-requires
 shrunk-num-requires c = (c.requires.few, some c.requires.some (divisor c), (divisor c).left)
 
+pub nonzero_div-result : goal.nonzero_div-result
+nonzero_div-result c = some c.requires.some (divisor (goal.at.nonzero_div-result c).After-gcd-g)
+
 pub returns : goal.returns
 returns c =
     let e : to_z w64 (of_z w64 c.shrunk-num.result) ≡ c.shrunk-num.result = search rules in
     rw e (lowest_ratio c.args.onboard c.args.ground c.gcd-g.result c.shrunk-num.result c.requires.some (divisor (goal.at.returns c).After-gcd-g) c.shrunk-num.ensures)
-
-pub nonzero_div-result : goal.nonzero_div-result
-nonzero_div-result c = ?
