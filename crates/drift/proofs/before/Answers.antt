@@ -1,7 +1,6 @@
 -- By the whole parts, then by what is left.
 use mathlib.Core.Path.{sym, ◌∙◌}
 use native.Mathlib.Omega.{arith}
-use borrow.Author.Rules.{rules}
 use Rattle.drift.proofs.Wholes.{whole_less, whole_more, whole_same, whole_even}
 use Rattle.drift.proofs.before.Goals as goal
 

@@ -2,7 +2,6 @@
 use mathlib.Core.Path.{sym}
 use native.Mathlib.Omega.{arith}
 use Rattle.drift.proofs.Apart.{too_early, too_late, in_between}
-use borrow.Author.Rules.{rules}
 use Rattle.drift.proofs.elapsed.Goals as goal
 
 pub returns-then-to-from : goal.returns-then-to-from

@@ -3,7 +3,6 @@ use native.Mathlib.Omega.{arith}
 use borrow.Author.Tests.{lt-ltb, le-ltb}
 use Rattle.base.proofs.Ladders.{need_yes, need_no}
 use Rattle.drift.specs.Inner.{most, over_of}
-use borrow.Author.Rules.{rules}
 use Rattle.drift.proofs.over.Goals as goal
 
 pub returns-then-d-le-MOST : goal.returns-then-d-le-MOST

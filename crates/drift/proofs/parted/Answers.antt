@@ -1,10 +1,8 @@
 use Prim.Native.Nat.{◌-◌}
-use mathlib.Core.Path.{refl}
 use native.Mathlib.Nat.{div-le_self, mod-lt}
 use native.Mathlib.Omega.{arith}
 use Rattle.drift.specs.Inner.{most}
-use Rattle.drift.proofs.Wholes.{exact_below, exact_above, parts}
-use borrow.Author.Rules.{rules}
+use Rattle.drift.proofs.Wholes.{exact_below, parts}
 use Rattle.drift.proofs.parted.Goals as goal
 
 pub returns-then-onboard-lt-MOST : goal.returns-then-onboard-lt-MOST

@@ -1,9 +1,7 @@
 -- Its tests are the ladder's, and the marks of valid pairs are narrow.
 use mathlib.Core.Path.{◌≡◌, sym, ◌∙◌}
 use mathlib.Core.Bool.{true, ◌&&◌}
-use borrow.Author.Tests.{not-true, not-false}
-use Rattle.base.proofs.Bools.{and_left, and_right}
-use Rattle.drift.specs.Inner.{Narrow}
+use borrow.Author.Tests.{not-true}
 use Rattle.drift.proofs.Quotients.{few_seat, not_valid, not_gridded, by_seats}
 use Rattle.drift.proofs.quotient_of.Goals.{Else-not-a-b, Else-not-a-b-2}
 use Rattle.drift.proofs.quotient_of.Goals as goal

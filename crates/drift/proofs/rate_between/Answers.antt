@@ -4,7 +4,6 @@ use Rattle.drift.specs.Rate.{quotient_of}
 use Rattle.drift.specs.Answers.{paired}
 use Rattle.drift.specs.Inner.{says_quotient}
 use Rattle.drift.proofs.Pairs.{fit, quotient_judged}
-use borrow.Author.Rules.{rules}
 use Rattle.drift.proofs.rate_between.Goals.{After-quotient_of}
 use Rattle.drift.proofs.rate_between.Goals as goal
 

@@ -1,9 +1,7 @@
 -- Before each turn a row is judged, and the twos before it are noted.
-use borrow.Author.Rules.{rules}
-use Prim.Native.Nat.{◌-◌}
 use native.Mathlib.Omega.{arith}
 use Rattle.drift.proofs.Pairs.{fit}
-use Rattle.drift.proofs.Loops.{Sofar, begins, asks, goes_on, ends, empty}
+use Rattle.drift.proofs.Loops.{begins, asks, goes_on, ends, empty}
 use Rattle.drift.proofs.report_on.Goals as goal
 
 pub returns-then-run-eq0 : goal.returns-then-run-eq0

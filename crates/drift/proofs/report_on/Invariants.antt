@@ -1,8 +1,5 @@
-use borrow.Author.Rules.{rules}
 use Prim.Native.Nat.{◌-◌}
-use native.Mathlib.Omega.{arith}
-use Rattle.drift.proofs.Pairs.{fit}
-use Rattle.drift.proofs.Loops.{Sofar, begins, asks, goes_on, ends, empty}
+use Rattle.drift.proofs.Loops.{Sofar}
 use Rattle.drift.proofs.report_on.Given as goal
 
 abbrev pub invariant-loop-i : goal.invariant-loop-i

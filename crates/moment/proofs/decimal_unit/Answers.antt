@@ -1,7 +1,6 @@
 use mathlib.Core.Path.{◌≡◌, ◌∙◌}
 use Prim.Native.Nat.{◌^◌}
 use native.Mathlib.Omega.{arith}
-use borrow.Author.Rules.{rules}
 use Rattle.moment.proofs.Decimal.{power_is, power_some, too_fine}
 use Rattle.moment.proofs.decimal_unit.Goals.{After-power10-power}
 use Rattle.moment.proofs.decimal_unit.Goals as goal
