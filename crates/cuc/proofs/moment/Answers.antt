@@ -1,17 +1,12 @@
 -- The seconds are counted in raised numbers, and the parts are less than a second.
-use mathlib.Core.Path.{◌≡◌, sym, ap, ◌∙◌}
-use Prim.Native.Nat.{ℕ, ◌*◌, ◌^◌, ◌<◌}
+use mathlib.Core.Path.{◌≡◌, ap}
+use Prim.Native.Nat.{◌^◌}
 use native.Mathlib.Omega.{arith}
 use borrow.Author.Rules.{rules}
 use mir.Syntax.{w64}
 use mir.Val.{to_z, of_z}
 use Rattle.base.specs.Parts.{plus, minus, At}
-use Rattle.scale.specs.Time.{per_second}
-use Rattle.scale.specs.Answers.{recorded}
-use Rattle.scale.proofs.Fractions.{ticks_lt}
-use Rattle.cuc.specs.Cuc.{unit}
-use Rattle.cuc.proofs.Widths.{power_le, grain}
-use Rattle.cuc.proofs.Times.{time_is}
+use Rattle.cuc.proofs.Widths.{power_le}
 use Rattle.cuc.proofs.moment.Goals.{After-unit, Start}
 use Rattle.cuc.proofs.moment.Goals as goal
 
@@ -26,4 +21,4 @@ start c =
     omega (arith, c.raised-start.ensures, ap plus e, ap minus e)
 
 pub overflow_add-start : goal.overflow_add-start
-overflow_add-start c = let a = begun c in omega (arith, start c, a.pre, power_le a.args.l.coarse 4 a.pre.0.narrow)
+overflow_add-start c = let a = begun c in omega (arith, start c, a.requires, power_le a.args.l.coarse 4 a.requires.0.narrow)

@@ -1,7 +1,6 @@
 -- The octets are there, and a slice's bytes are octets.
 use mathlib.Core.Path.{sym, ◌∙◌}
 use native.Mathlib.Omega.{arith}
-use borrow.Author.Rules.{rules}
 use Rattle.octets.specs.Places.{octet_value, octet_good}
 use Rattle.octets.proofs.Counts.{told_short, never_bad}
 use Rattle.cuc.proofs.number.Goals as goal

@@ -28,13 +28,13 @@ returns-then-to-from c =
     seat_out a.l r (held_under a.l r (2 ^ 63) c.raised-from.result c.raised-to.result (from (goal.at.returns-then-to-from c).After-raised-from) c.raised-to.ensures (omega arith))
 
 -- the seconds from the epoch, and how many the field holds
-whole : (c : Else-to-from) → let b = c.before in let a = b.before.before.before.args in a.l.epoch +ℤ pos (b.raised2.result - b.before.raised.result) ≡ a.r.sec
+whole : (c : Else-to-from) → c.args.l.epoch +ℤ pos (c.raised-to.result - c.raised-from.result) ≡ c.args.r.sec
 whole c =
     let a = c.args in
     let n = c.raised-to.result - c.raised-from.result in
-    same (a.l.epoch +ℤ pos n) a.r.sec (omega (arith, sum a.l.epoch (pos n), (let epoch = c.args.l.epoch in
-    let e : to_z w64 (of_z w64 epoch) ≡ epoch = search rules in
-    omega (arith, c.raised-from.ensures, ap plus e, ap minus e)), c.raised-to.ensures))
+    let e : to_z w64 (of_z w64 a.l.epoch) ≡ a.l.epoch = search rules in
+    let f : At (2 ^ 63) c.raised-from.result a.l.epoch = omega (arith, c.raised-from.ensures, ap plus e, ap minus e) in
+    same (a.l.epoch +ℤ pos n) a.r.sec (omega (arith, sum a.l.epoch (pos n), f, c.raised-to.ensures))
 
 most : (c : After-power256-most) → c.power256-most.result ≡ 256 ^ c.args.l.coarse
 most c =

@@ -1,5 +1,4 @@
 use mathlib.Core.Path.{sym, ◌∙◌}
-use borrow.Author.Rules.{rules}
 use native.Mathlib.Omega.{arith}
 use Rattle.cuc.proofs.Layouts.{widths, width_some, width_none}
 use Rattle.cuc.proofs.size.Goals as goal

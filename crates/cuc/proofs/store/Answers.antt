@@ -1,9 +1,7 @@
 -- Where the whole has room each count has, and the two texts stand one after the other.
 use mathlib.Core.Path.{sym, ◌∙◌}
 use Prim.Native.Nat.{◌+◌, ◌≤◌}
-use native.Mathlib.Omega.{arith}
-use borrow.Author.Rules.{rules}
-use borrow.Author.Tests.{not-true, not-false, leb-true, leb-false}
+use borrow.Author.Tests.{leb-true, leb-false}
 use lib.ListN.{length}
 use Rattle.cuc.proofs.Stores.{laid_in, laid_out}
 use Rattle.cuc.proofs.store.Goals.{Else-not-fits}

@@ -2,7 +2,6 @@
 use mathlib.Core.Path.{◌≡◌, sym, ◌∙◌}
 use mathlib.Core.Bool.{true}
 use borrow.Author.Rules.{rules}
-use borrow.Author.Tests.{not-true, not-false}
 use mir.Syntax.{w64}
 use mir.Val.{to_z, of_z}
 use Rattle.base.specs.declared.Refusal.TheVariants.{Range, Unsupported}
@@ -27,30 +26,23 @@ returns-then-not-is_width c =
     let a = c.args in
     refuses Unsupported _ a.at a.out.now (rw (bytes_unknown a.l (recorded a.r) (valid (goal.at.returns-then-not-is_width c).Else-not-valid) (sym c.is_width.ensures ∙ c.if-not-is_width.true)))
 
--- where the layout's epoch was asked, where the record was found valid, and where the function began
-abbrev asked : After-is_epoch → Else-not-is_width
-asked c = c.before.before
-
-abbrev found : After-is_epoch → Else-not-valid
-found c = (asked c).before.before
-
-abbrev begun : After-is_epoch → Start
-begun c = (found c).before.before.before
-
 wide : (c : Else-not-is_width) → is_width c.args.l ≡ true
 wide c = sym c.is_width.ensures ∙ c.if-not-is_width.false
 
-epoch : (c : After-is_epoch) → is_epoch (begun c).args.l.epoch ≡ c.is_epoch.result
-epoch c = let l = (begun c).args.l in let e : to_z w64 (of_z w64 l.epoch) ≡ l.epoch = search rules in sym (rw e at c.is_epoch.ensures)
+epoch : (c : After-is_epoch) → is_epoch c.args.l.epoch ≡ c.is_epoch.result
+epoch c = let l = c.args.l in let e : to_z w64 (of_z w64 l.epoch) ≡ l.epoch = search rules in sym (rw e at c.is_epoch.ensures)
 
 pub returns-then-not-is_epoch : goal.returns-then-not-is_epoch
 returns-then-not-is_epoch c =
-    let a = (begun (goal.at.returns-then-not-is_epoch c).After-is_epoch).args in
-    refuses Range _ a.at a.out.now (rw (bytes_epoch a.l (recorded a.r) (valid (found (goal.at.returns-then-not-is_epoch c).After-is_epoch)) (wide (asked (goal.at.returns-then-not-is_epoch c).After-is_epoch)) (epoch (goal.at.returns-then-not-is_epoch c).After-is_epoch ∙ c.if-not-is_epoch.true)))
+    let a = c.args in
+    refuses Range _ a.at a.out.now (rw (bytes_epoch a.l (recorded a.r) (valid (goal.at.returns-then-not-is_epoch c).Else-not-valid) (wide (goal.at.returns-then-not-is_epoch c).Else-not-is_width) (epoch (goal.at.returns-then-not-is_epoch c).After-is_epoch ∙ c.if-not-is_epoch.true)))
 
-ok : (c : Else-not-is_epoch) → is_layout (begun c.before).args.l ≡ true
+ok : (c : Else-not-is_epoch) → is_layout c.args.l ≡ true
 unfolding is_layout
-ok c = rw (wide ((c.before.before.before))) ((let l = ((((((c.before.before.before)).before.before)).before.before.before)).args.l in let e : to_z w64 (of_z w64 l.epoch) ≡ l.epoch = search rules in sym (rw e at c.is_epoch.ensures)) ∙ c.if-not-is_epoch.false)
+ok c =
+    let l = c.args.l in
+    let e : to_z w64 (of_z w64 l.epoch) ≡ l.epoch = search rules in
+    rw (sym c.is_width.ensures ∙ c.if-not-is_width.false) (sym (rw e at c.is_epoch.ensures) ∙ c.if-not-is_epoch.false)
 
 pub put-requires : goal.put-requires
-put-requires c = (ok (goal.at.put-requires c).Else-not-is_epoch, valid (found (goal.at.put-requires c).After-is_epoch))
+put-requires c = (ok (goal.at.put-requires c).Else-not-is_epoch, valid (goal.at.put-requires c).Else-not-valid)
