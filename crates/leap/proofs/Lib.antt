@@ -1,6 +1,7 @@
 pub mod Days
 pub mod Rows
 pub mod Builtin
+pub mod Counted
 pub mod Outcomes
 pub mod Raised
 pub mod Cover

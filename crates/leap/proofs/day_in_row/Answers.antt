@@ -1,7 +1,6 @@
 use mathlib.Core.Path.{◌≡◌, sym, ap, ◌∙◌}
 use Prim.Native.Nat.{ℕ, ◌+◌, ◌*◌, ◌≤◌}
 use native.Mathlib.Omega.{arith}
-use borrow.Author.Rules.{rules}
 use Rattle.leap.specs.declared.Row.{Row}
 use Rattle.leap.specs.declared.Day.{Day}
 use Rattle.leap.specs.Table.{start, day_length, day_on}

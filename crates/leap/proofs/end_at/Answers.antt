@@ -1,9 +1,7 @@
-use mathlib.Core.Path.{◌≡◌, sym, ap, ◌∙◌}
+use mathlib.Core.Path.{◌≡◌, sym, ap}
 use native.Mathlib.Omega.{arith}
-use borrow.Author.Rules.{rules}
 use Rattle.leap.specs.Builtin.{builtin}
 use Rattle.leap.specs.Inner.{end_at}
-use Rattle.leap.proofs.Rows.{end_next}
 use Rattle.leap.proofs.end_at.Goals as goal
 
 pub returns : goal.returns

@@ -1,4 +1,3 @@
-use borrow.Author.Rules.{rules}
 use Rattle.leap.proofs.Rule.{offset_at}
 use Rattle.leap.proofs.offset_at.Goals as goal
 

@@ -1,6 +1,5 @@
 use mathlib.Core.Path.{sym, ap, ◌∙◌}
 use native.Mathlib.Omega.{arith}
-use borrow.Author.Rules.{rules}
 use Rattle.base.specs.Outcome.{done}
 use Rattle.leap.specs.Builtin.{builtin}
 use Rattle.leap.proofs.Builtin.{second_in_lem, second_under, second_over}

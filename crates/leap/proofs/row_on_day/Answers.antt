@@ -1,5 +1,4 @@
 use native.Mathlib.Omega.{arith}
-use borrow.Author.Rules.{rules}
 use Rattle.leap.proofs.Builtin.{end_small}
 use Rattle.leap.proofs.row_on_day.Goals as goal
 

@@ -1,15 +1,13 @@
-use mathlib.Core.Logic.{⊎_elim}
 use mathlib.Core.Path.{sym, ap, ◌∙◌}
 use Prim.Native.Nat.{◌<◌}
 use native.Mathlib.Omega.{arith}
-use borrow.Author.Rules.{rules}
 use Rattle.leap.specs.declared.Day.{Day}
 use Rattle.leap.specs.Table.{day_length}
 use Rattle.leap.specs.Builtin.{builtin}
 use Rattle.leap.proofs.Builtin.{day_in_lem, day_under, day_over, row_small}
 use Rattle.leap.proofs.Rule.{offset_on, least_length}
 use Rattle.leap.proofs.Outcomes.{second_over, second_uncovered, second_missing, second_done}
-use Rattle.leap.proofs.second_at.Goals.{Joined-second-eq86400}
+use Rattle.leap.proofs.second_at.Goals.{Joined-second-eq86400, then-second-eq86400+else-length-eq86400, else-second-eq86400}
 use Rattle.leap.proofs.second_at.Goals as goal
 
 pub returns-then-second-gt86400 : goal.returns-then-second-gt86400
@@ -34,10 +32,10 @@ overflow_add-s-2 c =
 has : (c : Joined-second-eq86400) → c.args.second < day_length builtin c.args.day
 has c =
     let l = least_length _ _ c.row_on_day-i.ensures in
-    ⊎_elim
-    (λ a. omega (arith, a.0.taken, a.2.left, ap (λ (x : Day). x.length) a.1.ensures))
-    (λ a. omega (arith, a.left))
-    c.if-second-eq86400.branch
+    elim c.if-second-eq86400.branch [
+      | then-second-eq86400+else-length-eq86400 a ↦ omega (arith, ap (λ (x : Day). x.length) a.day_in_row-length.ensures)
+      | else-second-eq86400 a ↦ omega arith
+    ]
 
 pub returns : goal.returns
 returns c =

@@ -1,7 +1,6 @@
 use mathlib.Core.Path.{◌≡◌, sym, ap, ◌∙◌}
 use Prim.Native.Nat.{ℕ, ◌+◌, ◌≤◌, ◌-◌}
 use native.Mathlib.Omega.{arith}
-use borrow.Author.Rules.{rules}
 use borrow.Author.Tests.{le-leb, lt-leb}
 use lib.IntN.{pos}
 use mir.Syntax.{w64}
@@ -24,7 +23,7 @@ returns-then-second-gt86400 c = sym (need_no 4 _ (lt-leb c.args.second 86400 (om
 told : (c : After-seated) → seat_of (pos first_day) (pos last_day) c.args.day ≡ c.seated.result
 told c = sym (rw (back w64 c.args.day c.ranges.day) at c.seated.ensures)
 
-seat : (c : In-In) → (at day_raise (c.in-In.n + first_index) c.args.day) × (c.in-In.n ≤ last_day - first_day)
+seat : (c : In-In) → (At day_raise (c.in-In.n + first_index) c.args.day) × (c.in-In.n ≤ last_day - first_day)
 seat c = days_in c.args.day _ ((sym (rw (back w64 c.args.day c.ranges.day) at c.seated.ensures)) ∙ c.in-In.is)
 
 pub overflow_add-n : goal.overflow_add-n
