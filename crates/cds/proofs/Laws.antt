@@ -104,10 +104,10 @@ pub day_after : (B n d : ℕ) (e z : ℤ) → At B n e → At B (n + d) z → e 
 day_after B n d e z p q = same (e +ℤ pos d) z (omega (arith, sum e (pos d)))
 
 -- ---- what octets read to fits them
-pub count_told : (s : List ℕ) (At w n : ℕ) → count_at s at w ≡ Done n → Read 256 octet_value octet_good 8 s at w n w
+pub count_told : (s : List ℕ) (at w n : ℕ) → count_at s at w ≡ Done n → Read 256 octet_value octet_good 8 s at w n w
 count_told s at w n e = told 256 octet_value octet_good 8 s at w (Done n) e
 
-pub count_lt : (s : List ℕ) (At w n : ℕ) → count_at s at w ≡ Done n → n < 256 ^ w
+pub count_lt : (s : List ℕ) (at w n : ℕ) → count_at s at w ≡ Done n → n < 256 ^ w
 count_lt s at w n e = read_lt (count_told s at w n e) octet_rule
 
 pub day_lt : (w n : ℕ) → w ≤ 3 → n < 256 ^ w → n < 2 ^ 24
@@ -141,6 +141,6 @@ module _ (s : List ℕ) (at : ℕ) (l : Layout) where
     unfolding field is_layout
     field_short h = needs_yes (is_width l) _ 3 7 _ e ∙ need_no {t = leb (at + width l) (length s)} 1 _ (rw (width_is l e) (lt-leb _ _ h))
 
-    pub field_is : (d m p : ℕ) → At + (l.day + 4 + l.part) ≤ length s → count_at s at l.day ≡ Done d → count_at s (at + l.day) 4 ≡ Done m → count_at s (at + l.day + 4) l.part ≡ Done p → field s at l ≡ moment_by l d m p
+    pub field_is : (d m p : ℕ) → at + (l.day + 4 + l.part) ≤ length s → count_at s at l.day ≡ Done d → count_at s (at + l.day) 4 ≡ Done m → count_at s (at + l.day + 4) l.part ≡ Done p → field s at l ≡ moment_by l d m p
     unfolding field is_layout
     field_is d m p h a b c = needs_yes (is_width l) _ 3 7 _ e ∙ need_yes {t = leb (at + width l) (length s)} 1 _ (rw (width_is l e) (le-leb _ _ h)) ∙ rw (a, b, c)

@@ -106,7 +106,7 @@ module _ (l : Layout) (d m p : ℕ) where
     pub laid_out : length d0 < at + (l.day + 4 + l.part) → Wrote (roomed d0 at (in_octets l d m p)) at d0 d0 (Refused Room)
     laid_out h = refuses Room _ at d0 (room_out (in_octets l d m p) at d0 (omega (arith, length_laid)))
 
-    pub laid_in : {d1 d2 d3 : List ℕ} {q r s : Bool} → At + (l.day + 4 + l.part) ≤ length d0 → Stored (octets l.day d) at d0 d1 q → Stored (octets 4 m) (at + l.day) d1 d2 r → Stored (octets l.part p) (at + l.day + 4) d2 d3 s → Wrote (roomed d0 at (in_octets l d m p)) at d0 d3 (Done (at + (l.day + 4 + l.part)))
+    pub laid_in : {d1 d2 d3 : List ℕ} {q r s : Bool} → at + (l.day + 4 + l.part) ≤ length d0 → Stored (octets l.day d) at d0 d1 q → Stored (octets 4 m) (at + l.day) d1 d2 r → Stored (octets l.part p) (at + l.day + 4) d2 d3 s → Wrote (roomed d0 at (in_octets l d m p)) at d0 d3 (Done (at + (l.day + 4 + l.part)))
     unfolding in_octets
     laid_in {d1} {d2} {d3} h f g k =
         let A = octets l.day d in
