@@ -1,21 +1,20 @@
 -- A moment and its time, there and back, by any table that reckons.
-use mathlib.Core.Path.{◌≡◌, refl, sym, ap, ◌∙◌}
+use mathlib.Core.Path.{◌≡◌, sym, ap, ◌∙◌}
 use mathlib.Core.Bool.{true, ◌&&◌}
 use Prim.Native.Nat.{ℕ, ◌+◌, ◌^◌, ◌<◌, ◌≤◌}
 use native.Mathlib.Omega.{arith}
 use lib.Dec.{leb, ltb}
 use lib.IntN.{ℤ}
 use borrow.Author.Tests.{leb-true, ltb-true}
-use Rattle.base.specs.Parts.{lowered_by}
-use Rattle.base.specs.Outcome.{Outcome, done, refused, given}
+use Rattle.base.specs.Outcome.{done, refused, given}
 use Rattle.base.proofs.Bools.{and_true}
-use Rattle.base.proofs.Ladders.{need_done, then_done, given_done, done_is}
+use Rattle.base.proofs.Ladders.{need_done, then_done, given_done}
 use Rattle.base.proofs.Signed.{apart}
 use Rattle.scale.specs.Time.{Time, per_second, is_record}
 use Rattle.scale.proofs.Laws.{within_good, record_ticks}
 use Rattle.calendar.specs.Gregorian.{index_of_day}
 use Rattle.calendar.proofs.Numbers.{index_of_number}
-use Rattle.leap.specs.Table.{Table, good, start, covers_second, reading, day_holding, reading_at}
+use Rattle.leap.specs.Table.{Table, good, start, covers_second, reading_at}
 use Rattle.leap.specs.Utc.{second_raise, lifted_by, reading_of, utc, utc_of_second, second_of_utc}
 use Rattle.leap.specs.declared.Utc.{Utc}
 use Rattle.leap.proofs.Promises.{reading_back, utc_then_second, second_then_utc}
@@ -23,7 +22,7 @@ use Rattle.leap.proofs.Raised.{raise_is}
 use Rattle.moment.specs.Moment.{moment, is_moment}
 use Rattle.moment.specs.declared.Moment.{Moment}
 use Rattle.moment.proofs.Laws.{parts_moment}
-use Rattle.utc.specs.Reckoning.{time_of, moment_of, read_by, reckons}
+use Rattle.utc.specs.Reckoning.{time_of, moment_of, reckons}
 
 abbrev pub time : ℤ → ℕ → Time
 time z k = record { sec = z; ticks = k }

@@ -1,5 +1,5 @@
 -- What a code promises of moments, lifted to records by any table that reckons: once for CDS, CCS and ASCII.
-use mathlib.Core.Path.{◌≡◌, refl, sym, ap, ◌∙◌}
+use mathlib.Core.Path.{◌≡◌, refl, ap, ◌∙◌}
 use mathlib.Core.Bool.{Bool, true, false}
 use mathlib.Core.List.{List, ◌++◌}
 use lib.ListN.{length, drop}
@@ -7,7 +7,6 @@ use Prim.Native.Nat.{ℕ, ◌<◌, ◌≤◌}
 use native.Mathlib.Omega.{arith}
 use lib.Dec.{leb}
 use borrow.Author.Tests.{leb-true, leb-false}
-use Rattle.base.specs.Parts.{plus, minus}
 use Rattle.base.specs.Outcome.{Outcome, done, and_then}
 use Rattle.base.proofs.Ladders.{then_done}
 use Rattle.base.proofs.Signed.{le_yes, le_so}

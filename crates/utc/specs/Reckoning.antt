@@ -1,10 +1,9 @@
 -- A moment of UTC and the time that it is, by a leap second table (document 01, "The calendar and the table"): what CDS, CCS and ASCII have in common once their fields are read, and before they are written. For any table.
-use Rattle.std.specs.Prelude.{◌≡◌, Bool, ◌&&◌, ℕ, ◌+◌, ◌^◌, leb, ℤ}
+use Rattle.std.specs.Prelude.{◌≡◌, Bool, ◌&&◌, ◌+◌, ◌^◌, leb}
 use Rattle.base.specs.Outcome.{Outcome, done, and_then, given}
 use Rattle.scale.specs.Time.{Time}
 use Rattle.leap.specs.Table.{Table, good, start}
 use Rattle.leap.specs.Utc.{utc_of_second, second_of_utc}
-use Rattle.leap.specs.declared.Utc.{Utc}
 use Rattle.moment.specs.Moment.{moment}
 use Rattle.moment.specs.declared.Moment.{Moment}
 
