@@ -40,20 +40,29 @@ CALLS = sed -n 's/^uint8_t \(hz_[a-z_]*\)(.*/\1/p' include/honigzange.h
 
 all: prove $(SHARED) $(PAGES)
 
-prove:
-	$(RT) staticlib honigzange
-	$(RT) check zange
+prove: library program
+
+# rt leaves what it builds in the crate's own out/.
+library:
+	@mkdir -p target/staticlib
+	cd crates/honigzange && $(RT) lib
+	@cmp -s crates/honigzange/out/libhonigzange.a $(STATIC) || cp crates/honigzange/out/libhonigzange.a $(STATIC)
+
+program:
+	@mkdir -p target/bin
+	cd crates/zange && $(RT) run </dev/null
+	@cmp -s crates/zange/out/zange $(PROGRAM) || cp crates/zange/out/zange $(PROGRAM)
 
 $(STATIC):
-	$(RT) staticlib honigzange
+	$(MAKE) library
 
 $(PROGRAM):
-	$(RT) check zange
+	$(MAKE) program
 
 run:
 	@[ -f $(PROGRAM) ] || echo 'proving the program: some minutes' >&2
 	@mkdir -p target
-	@$(RT) check zange >target/run.log 2>&1 || { cat target/run.log; exit 1; }
+	@$(MAKE) -s program >target/run.log 2>&1 || { cat target/run.log; exit 1; }
 	@$(EMULATOR) $(PROGRAM) <examples/times.txt
 
 # The linker refuses what is not position independent (text) or needs another library (defs).
@@ -100,9 +109,9 @@ uninstall:
 	for call in $$($(CALLS)); do rm -f '$(DESTDIR)$(MANDIR)/man3/'"$$call.3" || exit 1; done
 
 clean:
-	rm -rf target
+	rm -rf target crates/*/out
 
-# rt works on one target/ at a time.
+# rt works in one crate at a time.
 .NOTPARALLEL:
 .DELETE_ON_ERROR:
-.PHONY: all prove run test install uninstall clean
+.PHONY: all prove library program run test install uninstall clean

@@ -15,7 +15,7 @@ fn main() {
     println!("cargo:rerun-if-changed={}", library.display());
     if !library.is_file() {
         panic!(
-            "{} is missing: run `rt staticlib honigzange` at the root of the repository, \
+            "{} is missing: run `make` at the root of the repository, \
              or set HONIGZANGE_LIB_DIR to the directory that holds libhonigzange.a",
             library.display()
         );

@@ -28,7 +28,7 @@ fn zange() -> PathBuf {
     let path = Path::new(env!("CARGO_MANIFEST_DIR")).join(path);
     assert!(
         path.is_file(),
-        "{} is missing: run `rt check zange` at the root of the repository, or set ZANGE to the program",
+        "{} is missing: run `make` at the root of the repository, or set ZANGE to the program",
         path.display()
     );
     path
