@@ -1,13 +1,13 @@
 -- A layout that a P octet gives is one that its code has.
-use mathlib.Core.Path.{◌≡◌, refl, sym, ap, ◌∙◌, subst}
-use mathlib.Core.Bool.{Bool, true, false, cond, ◌&&◌, ◌||◌, false≢true}
-use Prim.Native.Nat.{ℕ, zero, suc, ◌+◌, ◌*◌, ◌-◌, ◌/◌, ◌%◌, ◌^◌, ◌<◌, ◌≤◌}
+use mathlib.Core.Path.{◌≡◌, refl, subst}
+use mathlib.Core.Bool.{Bool, true, false, cond, ◌||◌}
+use Prim.Native.Nat.{ℕ, zero, suc, ◌+◌, ◌*◌, ◌-◌, ◌/◌, ◌%◌, ◌^◌, ◌<◌}
 use native.Mathlib.Omega.{arith}
-use borrow.Author.Tests.{ltb-true, le-leb, lt-leb, eq-eqb}
-use lib.Dec.{ltb, leb, eqb, lit<}
+use borrow.Author.Tests.{ltb-true, le-leb}
+use lib.Dec.{ltb, eqb, lit<}
 use lib.IntN.{ℤ, pos, neg_ℤ}
 use Rattle.base.specs.Parts.{within}
-use Rattle.base.specs.Outcome.{Outcome, done, need}
+use Rattle.base.specs.Outcome.{done}
 use Rattle.base.proofs.Ladders.{need_done, done_is}
 use Rattle.base.proofs.Signed.{within_yes, neg_plus, neg_minus}
 use Rattle.cuc.specs.Cuc.{is_epoch, is_layout as is_cuc}
