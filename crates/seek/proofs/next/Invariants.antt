@@ -1,0 +1,17 @@
+use Prim.Native.Nat.{◌+◌, ◌-◌, ◌≤◌}
+use Rattle.leap.specs.Builtin.{builtin}
+use Rattle.leap.proofs.Builtin.{builtin_good}
+use Rattle.seek.proofs.Search.{Searched}
+use Rattle.seek.proofs.next.Given as goal
+
+abbrev pub invariant-fields : goal.invariant-fields
+invariant-fields l = Searched builtin builtin_good l.wants l.from l.to l.day l.s
+
+abbrev pub decreases-fields : goal.decreases-fields
+decreases-fields l = l.end - l.s
+
+abbrev pub invariant-days : goal.invariant-days
+invariant-days l = (l.initial.day ≤ l.day) × Searched builtin builtin_good l.wants l.from l.to l.day l.s
+
+abbrev pub decreases-days : goal.decreases-days
+decreases-days l = l.last.day + 1 - l.day
