@@ -15,15 +15,13 @@ use Rattle.drift.specs.declared.Extreme as E
 use Rattle.drift.specs.declared.Report.{Report}
 
 abbrev pub paired : Pair → P.Pair
-paired p = record { onboard = recorded p.onboard; ground = recorded p.ground }
+paired p = P.pair_of (recorded p.onboard) (recorded p.ground)
 
 -- a row of four signed numbers: onboard seconds and ticks, ground seconds and ticks. Ticks are read without a sign
 abbrev pub pair_in : List ℤ → P.Pair
 pair_in row =
-    record {
-      onboard = record { sec = get_or row 0 (pos 0); ticks = bits_of (get_or row 1 (pos 0)) };
-      ground = record { sec = get_or row 2 (pos 0); ticks = bits_of (get_or row 3 (pos 0)) };
-    }
+    P.pair_of (record { sec = get_or row 0 (pos 0); ticks = bits_of (get_or row 1 (pos 0)) })
+    (record { sec = get_or row 2 (pos 0); ticks = bits_of (get_or row 3 (pos 0)) })
 
 abbrev pub fraction : Rate → Fraction
 fraction r = record { num = r.num; den = r.den }

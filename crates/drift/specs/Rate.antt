@@ -10,6 +10,9 @@ pub record Pair : Type 0 where
   pub onboard : Time
   pub ground : Time
 
+abbrev pub pair_of : Time → Time → Pair
+pair_of a b = record { onboard = a; ground = b }
+
 -- a test of all four records
 abbrev pub of_all : (Time → Bool) → Pair → Pair → Bool
 of_all test p q = (test p.onboard && test p.ground) && (test q.onboard && test q.ground)

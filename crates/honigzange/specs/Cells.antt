@@ -2,7 +2,7 @@
 use Rattle.std.specs.Prelude.{ℕ, Bool, List, [], ◌∷◌, ◌++◌, length, get_or, drop, ℤ}
 use Rattle.base.specs.Parts.{bits_of, signed_of}
 use Rattle.scale.specs.Time.{Time}
-use Rattle.drift.specs.Rate.{Pair}
+use Rattle.drift.specs.Rate.{Pair, pair_of}
 use Rattle.drift.specs.declared.Extreme as E
 use Rattle.drift.specs.declared.Report.{Report}
 use Rattle.calendar.specs.declared.Date.{Date}
@@ -76,7 +76,7 @@ abbrev pub listed_more : Listed → Bool
 listed_more x = x.more
 
 abbrev pub pair : ℤ → ℕ → ℤ → ℕ → Pair
-pair s k t l = record { onboard = time s k; ground = time t l }
+pair s k t l = pair_of (time s k) (time t l)
 
 -- the numerator's bits, the denominator and the place: without a rate all are 0
 abbrev pub numbers_in : E.Extreme → List ℕ
