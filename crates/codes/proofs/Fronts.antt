@@ -1,21 +1,19 @@
 -- A T-field that was stored from 1 on, and its P octet stored before it.
-use mathlib.Core.Path.{◌≡◌, refl, sym, ap, ◌∙◌}
+use mathlib.Core.Path.{◌≡◌, sym, ap, ◌∙◌}
 use mathlib.Core.Bool.{Bool, true, false}
-use mathlib.Core.List.{List, [], ◌∷◌, ◌++◌}
-use Prim.Native.Nat.{ℕ, suc, ◌+◌, ◌<◌, ◌≤◌}
+use mathlib.Core.List.{List, [], ◌∷◌}
+use Prim.Native.Nat.{ℕ, ◌+◌, ◌<◌, ◌≤◌}
 use native.Mathlib.Nat.{zero-add}
 use native.Mathlib.Numerals.{one-add}
 use native.Mathlib.Omega.{arith}
 use borrow.Author.Tests.{leb-true}
-use lib.Dec.{leb}
-use lib.ListN.{length, set, take, drop}
+use lib.ListN.{length, set}
 use Rattle.base.specs.Outcome.{Outcome, done, refused, need, and_then, given}
 use Rattle.base.specs.Refusals.{number}
 use Rattle.base.specs.declared.Refusal.{Refusal}
 use Rattle.base.proofs.Ladders.{never, need_done, then_done, given_done, done_is, refused_is}
 use Rattle.octets.specs.Stores.{pasted, has_room}
-use Rattle.octets.specs.Writes.{roomed, end_of, filled, says_written, Wrote}
-use Rattle.octets.specs.declared.Written.{Written}
+use Rattle.octets.specs.Writes.{roomed, end_of, filled, Wrote}
 use Rattle.octets.specs.declared.Written.TheVariants.{Done, Refused}
 use Rattle.octets.proofs.Pastes.{length_pasted}
 use Rattle.octets.proofs.Writes.{refuses, fills, room_in}

@@ -3,17 +3,13 @@ use mathlib.Core.Path.{◌≡◌, refl, sym, ap, ◌∙◌, subst}
 use mathlib.Core.Bool.{Bool, true, false}
 use mathlib.Core.List.{List, [], ◌∷◌, ◌++◌}
 use Prim.Native.Nat.{ℕ, suc, ◌+◌, ◌≤◌}
-use native.Mathlib.Nat.{zero-add}
-use native.Mathlib.Numerals.{one-add}
 use native.Mathlib.Omega.{arith}
-use borrow.Author.Tests.{le-leb, leb-true}
-use lib.Dec.{leb}
 use lib.IntN.{ℤ}
-use lib.ListN.{length, get_or, take, drop, length-append}
+use lib.ListN.{length, get_or, take, drop}
 use lib.Seq.{length-take-le}
-use Rattle.base.specs.Outcome.{Outcome, done, refused, need, and_then, given}
+use Rattle.base.specs.Outcome.{Outcome, done, and_then, given}
 use Rattle.base.proofs.Ladders.{need_yes, need_done, then_done, given_done, done_is}
-use Rattle.scale.specs.Time.{Time, per_second, is_record}
+use Rattle.scale.specs.Time.{Time, is_record}
 use Rattle.scale.specs.Latest.{NotAfter, Latest}
 use Rattle.scale.proofs.Latest.{later_source, latest_by}
 use Rattle.leap.specs.Table.{Table}

@@ -2,14 +2,11 @@
 use mathlib.Core.Path.{◌≡◌, refl, sym, ap, ◌∙◌}
 use mathlib.Core.Bool.{Bool, true, false}
 use mathlib.Core.List.{List}
-use Prim.Native.Nat.{ℕ, ◌≤◌}
-use native.Mathlib.Omega.{arith}
+use Prim.Native.Nat.{ℕ}
 use lib.IntN.{ℤ}
-use lib.ListN.{length}
 use Rattle.base.specs.Outcome.{Outcome, done, refused, and_then}
 use Rattle.base.proofs.Ladders.{need_yes, done_is}
 use Rattle.scale.specs.Time.{Time, is_record}
-use Rattle.octets.proofs.Writes.{room_in}
 use Rattle.leap.specs.Table.{Table}
 use Rattle.leap.specs.Utc.{utc_of_second}
 use Rattle.leap.specs.declared.Utc.{Utc}
@@ -20,7 +17,7 @@ use Rattle.utc.specs.Reckoning.{moment_of, reckons}
 use Rattle.utc.proofs.Laws.{time, table_good, time_done, time_back, moment_told, moment_done, moment_refused, moment_valid, moment_index}
 use Rattle.utc.proofs.Lift.{read_of, read_so, written_so}
 use Rattle.cuc.specs.Cuc.{Holds as CucHolds}
-use Rattle.cds.specs.Cds.{held, field as cdsField, coded, bytes_of as cdsBytes}
+use Rattle.cds.specs.Cds.{held, field as cdsField, bytes_of as cdsBytes}
 use Rattle.cds.specs.declared.Layout.{Layout as CdsLayout}
 use Rattle.ccs.specs.Ccs.{bytes_of as ccsBytes}
 use Rattle.cuc.proofs.Promises as U
@@ -31,10 +28,10 @@ use Rattle.pfield.specs.declared.PField.{PField}
 use Rattle.pfield.specs.declared.Codes.TheVariants.{All}
 use Rattle.codes.specs.Reading.{HasDay}
 use Rattle.codes.specs.Range.{HoldsIn}
-use Rattle.codes.specs.Writing.{bytes_of, code_of, fronted, write_of}
+use Rattle.codes.specs.Writing.{bytes_of, fronted, write_of}
 use Rattle.pfield.specs.declared.Layout.{Layout}
 use Rattle.pfield.specs.declared.Layout.TheVariants.{Cuc, Cds, Ccs}
-use Rattle.pfield.proofs.Layouts.{is_layout_of, laid_good}
+use Rattle.pfield.proofs.Layouts.{laid_good}
 
 module _ (t : Table) where
   -- a T-field that is not to be had refuses the write, whatever the room

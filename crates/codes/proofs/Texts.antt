@@ -1,5 +1,5 @@
 -- What reading and writing ASCII codes promise together, as records, by any table that reckons.
-use mathlib.Core.Path.{◌≡◌, refl, sym, ap, ◌∙◌}
+use mathlib.Core.Path.{◌≡◌, sym, ap, ◌∙◌}
 use mathlib.Core.Bool.{true, false}
 use mathlib.Core.List.{List}
 use Prim.Native.Nat.{ℕ, ◌<◌}
@@ -16,7 +16,7 @@ use Rattle.leap.specs.declared.Utc.{Utc}
 use Rattle.moment.specs.Moment.{moment}
 use Rattle.moment.specs.declared.Moment.{Moment}
 use Rattle.moment.proofs.Laws.{moment_parts}
-use Rattle.utc.specs.Reckoning.{moment_of, written_by, reckons, HadBy}
+use Rattle.utc.specs.Reckoning.{written_by, reckons, HadBy}
 use Rattle.utc.proofs.Laws.{moment_done, moment_refused, moment_valid, moment_index}
 use Rattle.utc.proofs.Lift.{read_of, read_so, written_of, written_so, read_again, read_record, floored, floor_is, floor_latest, Written}
 use Rattle.ascii.specs.Ascii.{is_layout, width, layout_of, text, bytes_of, Reads}
