@@ -91,17 +91,17 @@ zone_plain false = refl
 
 -- ---- the time of a full code that a text is what is left of
 pub record TimeBack (hour : Bool) (x k : ℕ) (s : List ℕ) : Type 0 where
-  pub digits_of_lem : ℕ
-  pub number_of_lem : ℕ
+  pub digit_count : ℕ
+  pub number : ℕ
   pub zone : Bool
-  pub few : digits_of_lem ≤ 12
-  pub small : number_of_lem < 10 ^ digits_of_lem
-  pub exact : ticks_of digits_of_lem number_of_lem ≡ k
+  pub few : digit_count ≤ 12
+  pub small : number < 10 ^ digit_count
+  pub exact : ticks_of digit_count number ≡ k
   pub lo : ℕ
   pub hi : ℕ
   pub early : lo ≤ 3
-  pub run : Run lo hi (clocked x (digits digits_of_lem number_of_lem))
-  pub is : s ≡ cut lo hi (clocked x (digits digits_of_lem number_of_lem)) ++ zone_text zone
+  pub run : Run lo hi (clocked x (digits digit_count number))
+  pub is : s ≡ cut lo hi (clocked x (digits digit_count number)) ++ zone_text zone
   pub first : hour ≡ true → lo ≡ 0
 
 -- ---- each form of a time is one run of its first subfields, with j digits of the fraction behind the second
@@ -180,14 +180,14 @@ module _ (x : ℕ) (hx : x ≤ 86400) {b : Bool} {lo : ℕ} {to : ℕ → ℕ} {
   back : (k : ℕ) (s c tail : List ℕ) (z : Bool) → s ≡ c ++ (tail ++ zone_text z) → Follows tail → shape_of c ≡ f.shape → clock_fits (clock_as c f) x ≡ true → fraction_as f.third tail ≡ done k → TimeBack b x k s
   back k s c tail z is next e g q =
       let r = part_back f.third k next q in
-      let d = r.digits_of_lem in
-      let n = r.number_of_lem in
+      let d = r.digit_count in
+      let n = r.number in
       let ds = digits d n in
       let u : length ds ≡ d = digits_length d n in
       let (a, low) = and_true (agree 0 c ps) kept.lows (sym (kept.wants c) ∙ g) in
       record {
-        digits_of_lem = d;
-        number_of_lem = n;
+        digit_count = d;
+        number = n;
         zone = z;
         few = r.few;
         small = r.small;

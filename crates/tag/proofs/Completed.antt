@@ -99,8 +99,8 @@ module _ (n x : ℕ) (s : List ℕ) where
 
   time_code : {w : Bool} (k : ℕ) → TimeBack w x k s → Completed n x k s
   time_code k b =
-      let l = lay false b.digits_of b.zone in
-      let f = b.number_of_lem in
+      let l = lay false b.digit_count b.zone in
+      let f = b.number in
       let e = clock_of_lem l n x f b.few in
       record {
         layout = l;
@@ -115,14 +115,14 @@ module _ (n x : ℕ) (s : List ℕ) where
 
 both_code : (n x k : ℕ) (s c r : List ℕ) → s ≡ c ++ (84 ∷ r) → DayBack n c true → TimeBack true x k r → Completed n x k s
 both_code n x k s c r i d b =
-    let l = lay d.ordinal b.digits_of b.zone in
-    let f = b.number_of_lem in
+    let l = lay d.ordinal b.digit_count b.zone in
+    let f = b.number in
     let h = d.reaches refl in
     let o = b.first refl in
     let e = calendar_of l n x f b.few in
     let g = clock_of_lem l n x f b.few in
     let run : Run d.lo (length (dated d.ordinal n)) (dated d.ordinal n) = subst (λ (j : ℕ). Run d.lo j (dated d.ordinal n)) h d.run in
-    let from : Run 0 b.hi (clocked x (digits b.digits_of f)) = subst (λ (j : ℕ). Run j b.hi (clocked x (digits b.digits_of f))) o b.run in
+    let from : Run 0 b.hi (clocked x (digits b.digit_count f)) = subst (λ (j : ℕ). Run j b.hi (clocked x (digits b.digit_count f))) o b.run in
     record {
       layout = l;
       number = f;
@@ -133,7 +133,7 @@ both_code n x k s c r i d b =
           subst (Shortening (code_text l n x f))
           (ap₂ (λ (u v : List ℕ). u ++ (84 ∷ v))
           (ap (λ q. cut d.lo (length q) q) e ∙ ap (λ (j : ℕ). cut d.lo j (dated d.ordinal n)) (sym h) ∙ sym d.is)
-          (ap₂ (λ q z. cut 0 b.hi q ++ z) g (zone_of_lem l n x f b.few) ∙ ap (λ (j : ℕ). cut j b.hi (clocked x (digits b.digits_of f)) ++ zone_text b.zone) (sym o) ∙ sym b.is)
+          (ap₂ (λ q z. cut 0 b.hi q ++ z) g (zone_of_lem l n x f b.few) ∙ ap (λ (j : ℕ). cut j b.hi (clocked x (digits b.digit_count f)) ++ zone_text b.zone) (sym o) ∙ sym b.is)
           ∙ sym i)
           (both d.lo b.hi (rw e run) (rw g from));
     }

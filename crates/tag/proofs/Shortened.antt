@@ -2,14 +2,13 @@
 use mathlib.Core.Path.{◌≡◌, refl, sym, ap₂, ◌∙◌}
 use mathlib.Core.Bool.{Bool, true}
 use mathlib.Core.List.{List, [], ◌∷◌, ◌++◌}
-use Prim.Native.Nat.{ℕ, ◌+◌, ◌-◌, ◌*◌, ◌/◌, ◌%◌, ◌^◌, ◌≤◌, ◌<◌}
+use Prim.Native.Nat.{ℕ, ◌-◌, ◌*◌, ◌/◌, ◌%◌, ◌^◌, ◌≤◌, ◌<◌}
 use native.Mathlib.Omega.{arith}
 use lib.ListN.{length, length-append}
 use lib.Seq.{take_at, drop-append-add}
 use borrow.Author.Tests.{eq-eqb}
 use Rattle.base.specs.Outcome.{done}
 use Rattle.base.proofs.Ladders.{never}
-use Rattle.octets.specs.Places.{digits}
 use Rattle.calendar.specs.Gregorian.{kind, row, month_length, is_date}
 use Rattle.ascii.specs.declared.Layout.{Layout}
 use Rattle.clock.specs.Clock.{minute_of}

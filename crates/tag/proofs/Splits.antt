@@ -1,9 +1,9 @@
 -- A time that a tag has, taken apart: its head, its fraction and Z, and the digits of its fraction.
 use mathlib.Core.Path.{◌≡◌, refl, sym, ap, subst, ◌∙◌}
-use mathlib.Core.Logic.{◌⊎◌, ⊎_elim}
+use mathlib.Core.Logic.{⊎_elim}
 use mathlib.Core.Bool.{Bool, true, false, cond, not, ◌&&◌, false≢true}
 use mathlib.Core.List.{List, [], ◌∷◌, ◌++◌, append_assoc, append-nil}
-use Prim.Native.Nat.{ℕ, suc, ◌+◌, ◌-◌, ◌^◌, ◌≤◌, ◌<◌}
+use Prim.Native.Nat.{ℕ, suc, ◌+◌, ◌^◌, ◌≤◌, ◌<◌}
 use native.Mathlib.Nat.{eq-or-lt_of_le, not-suc-le-zero}
 use native.Mathlib.Omega.{arith}
 use lib.Dec.{eqb, leb}
@@ -95,14 +95,14 @@ split fs s k e =
 
 -- ---- a fraction
 pub record Part (p : Place) (tail : List ℕ) (k : ℕ) : Type 0 where
-  pub digits_of_lem : ℕ
-  pub number_of_lem : ℕ
-  pub few : digits_of_lem ≤ 12
-  pub small : number_of_lem < 10 ^ digits_of_lem
-  pub exact : ticks_of digits_of_lem number_of_lem ≡ k
-  pub is : tail ≡ cut 0 digits_of_lem (digits_by (bytes ".") (digits digits_of_lem number_of_lem))
-  pub some : is_free p ≡ true → 1 ≤ digits_of_lem
-  pub none : is_lowest p ≡ true → digits_of_lem ≡ 0
+  pub digit_count : ℕ
+  pub number : ℕ
+  pub few : digit_count ≤ 12
+  pub small : number < 10 ^ digit_count
+  pub exact : ticks_of digit_count number ≡ k
+  pub is : tail ≡ cut 0 digit_count (digits_by (bytes ".") (digits digit_count number))
+  pub some : is_free p ≡ true → 1 ≤ digit_count
+  pub none : is_lowest p ≡ true → digit_count ≡ 0
 
 all_digits : (ds : List ℕ) → all_good digit_good ds (length ds) ≡ true → digits (length ds) (decimal_of ds (length ds)) ≡ ds
 all_digits ds g = places_number digit_rule ds (length ds) (omega arith) g ∙ take-length ds
@@ -114,7 +114,7 @@ whole_part (d ∷ ds) h = sym (first_digits (length ds) (d ∷ ds) (omega arith)
 pub part_back : {tail : List ℕ} (p : Place) (k : ℕ) → Follows tail → fraction_as p tail ≡ done k → Part p tail k
 part_back p k none e =
     let (a, b) = need_done (not (is_free p)) 4 (done 0) k e in
-    record { digits_of_lem = 0; number_of_lem = 0; few = omega arith; small = omega arith; exact = done_is 0 k b; is = refl; some = λ f. absurd (false≢true (sym (ap not f) ∙ a)); none = λ f. refl }
+    record { digit_count = 0; number = 0; few = omega arith; small = omega arith; exact = done_is 0 k b; is = refl; some = λ f. absurd (false≢true (sym (ap not f) ∙ a)); none = λ f. refl }
 part_back p k (part ds) e =
     let (a, b) = need_done (not (is_lowest p) && (leb 1 (length ds) && (leb (length ds) 12 && all_good digit_good ds (length ds)))) 4 _ k e in
     let (c, r) = and_true (not (is_lowest p)) _ a in
@@ -122,8 +122,8 @@ part_back p k (part ds) e =
     let (h, g) = and_true (leb (length ds) 12) _ q in
     let n = leb-true 1 (length ds) l in
     record {
-      digits_of_lem = length ds;
-      number_of_lem = decimal_of ds (length ds);
+      digit_count = length ds;
+      number = decimal_of ds (length ds);
       few = leb-true (length ds) 12 h;
       small = number_lt digit_rule ds (length ds) g;
       exact = done_is _ k b;
