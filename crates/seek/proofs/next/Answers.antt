@@ -1,4 +1,3 @@
--- `seek::next` meets its contract. The invariant of both loops: nothing of the window is named before the second that is looked at next.
 use mathlib.Core.Bool.{true}
 use mathlib.Core.Path.{◌≡◌, sym, ap, ◌∙◌}
 use Prim.Native.Nat.{ℕ, ◌+◌, ◌-◌}

@@ -1,3 +1,4 @@
+-- The invariant of both loops: nothing of the window is named before the second that is looked at next.
 use Prim.Native.Nat.{◌+◌, ◌-◌, ◌≤◌}
 use Rattle.leap.specs.Builtin.{builtin}
 use Rattle.leap.proofs.Builtin.{builtin_good}

@@ -1,4 +1,3 @@
--- `seek::run` meets its contract. The loop's invariant: what is named before `at` is listed.
 use mathlib.Core.Path.{◌≡◌, sym, ◌∙◌}
 use Prim.Native.Nat.{ℕ, ◌<◌}
 use native.Mathlib.Omega.{arith}

@@ -1,3 +1,4 @@
+-- The loop's invariant: what is named before `at` is listed.
 use Prim.Native.Nat.{ℕ, ◌-◌, ◌≤◌}
 use lib.IntN.{ℤ}
 use Rattle.base.specs.Parts.{lowered_by}
