@@ -8,71 +8,77 @@ use codes::setting::Setting;
 use octets::Written;
 use pfield::{PField, Preamble};
 use scale::{Record, RecordAnswer, Span, SpanAnswer};
+use std::io;
+use std::io::Read;
 
-fn main() {
-    make_record(-2199023255552, 0);
-    make_record(2199023255552, 0);
-    make_record(0, Record::TICKS);
-    make_span(-4398046511104, Record::TICKS - 1);
-    make_span(4398046511104, 0);
-    let mut buf = io::buffer();
-    let n = io::read_full(libc::STDIN_FILENO, &mut buf);
-    run(&buf[..n]);
+// Of a longer input the first bytes are read.
+const ROOM: u64 = 4096;
+
+fn main(rt: HostRuntime) -> io::Result<()> {
+    make_record(&rt, -2199023255552, 0)?;
+    make_record(&rt, 2199023255552, 0)?;
+    make_record(&rt, 0, Record::TICKS)?;
+    make_span(&rt, -4398046511104, Record::TICKS - 1)?;
+    make_span(&rt, 4398046511104, 0)?;
+    let mut s = Vec::new(rt.alloc());
+    rt.stdin().take(ROOM).read_to_end(&mut s)?;
+    run(&rt, &s)
 }
 
 // Each code in turn, until one is refused or none is left.
-fn run(s: &[u8]) {
+fn run(rt: &impl Print, s: &[u8]) -> io::Result<()> {
     let mut at: usize = 0;
     while at < s.len() {
-        let left = step(&s[at..], Preamble::Front, 0);
+        let left = step(rt, &s[at..], Preamble::Front, 0)?;
         if s.len() - at <= left {
-            return;
+            return Ok(());
         }
         at = s.len() - left;
     }
+    Ok(())
 }
 
 // Reads one code, and answers how many bytes follow it.
-fn step(s: &[u8], p: Preamble, epoch: i64) -> usize {
+fn step(rt: &impl Print, s: &[u8], p: Preamble, epoch: i64) -> io::Result<usize> {
     let taken = codes::read(s, p, epoch);
-    tell(taken.answer, taken.rest)
+    tell(rt, taken.answer, taken.rest)
 }
 
 // A line for what was read: the number of bytes that follow, and the moment or the refusal.
-fn tell(answer: ScanAnswer, rest: &[u8]) -> usize {
+fn tell(rt: &impl Print, answer: ScanAnswer, rest: &[u8]) -> io::Result<usize> {
     let left = rest.len();
-    io::print_decimal(libc::STDOUT_FILENO, left as u64);
+    print!(rt; "{left}")?;
     match answer {
-        ScanAnswer::Refused(why) => refuse(why.number()),
-        ScanAnswer::Done(r, _) => show(r),
+        ScanAnswer::Refused(why) => refuse(rt, why.number())?,
+        ScanAnswer::Done(r, _) => show(rt, r)?,
     }
-    end_line();
-    left
+    end_line(rt)?;
+    Ok(left)
 }
 
 // A moment in two settings, and the moment half a second before it.
-fn show(r: Record) {
-    write_text(r);
-    write_octets(r);
+fn show(rt: &impl Print, r: Record) -> io::Result<()> {
+    write_text(rt, r)?;
+    write_octets(rt, r)?;
     match Span::new(-1, Record::TICKS / 2) {
-        SpanAnswer::Refused(why) => refuse(why.number()),
+        SpanAnswer::Refused(why) => refuse(rt, why.number()),
         SpanAnswer::Done(by) => match scale::shift(r, by) {
-            RecordAnswer::Refused(why) => refuse(why.number()),
-            RecordAnswer::Done(earlier) => write_text(earlier),
+            RecordAnswer::Refused(why) => refuse(rt, why.number()),
+            RecordAnswer::Done(earlier) => write_text(rt, earlier),
         },
     }
 }
 
-fn write_text(r: Record) {
+fn write_text(rt: &impl Print, r: Record) -> io::Result<()> {
     let mut text = [0u8; 40];
     match codes::setting::write(r, Setting::Ascii(codes::setting::DEFAULT), &mut text) {
-        Written::Refused(why) => refuse(why.number()),
-        Written::Done(n) => put_text(&text, n),
+        Written::Refused(why) => refuse(rt, why.number()),
+        Written::Done(n) => put_text(rt, &text, n),
     }
 }
 
 // CDS from 1958 on behind its P octet, in hexadecimal.
-fn write_octets(r: Record) {
+fn write_octets(rt: &impl Print, r: Record) -> io::Result<()> {
     let mut code = [0u8; 16];
     let setting = Setting::Binary {
         p: PField { octet: 64 },
@@ -80,66 +86,62 @@ fn write_octets(r: Record) {
         front: true,
     };
     match codes::setting::write(r, setting, &mut code) {
-        Written::Refused(why) => refuse(why.number()),
-        Written::Done(n) => put_hex(&code, n),
+        Written::Refused(why) => refuse(rt, why.number()),
+        Written::Done(n) => put_hex(rt, &code, n),
     }
 }
 
-fn make_record(sec: i64, ticks: u64) {
-    io::write_all(libc::STDOUT_FILENO, b"record");
+fn make_record(rt: &impl Print, sec: i64, ticks: u64) -> io::Result<()> {
+    print!(rt; "record")?;
     match Record::new(sec, ticks) {
-        RecordAnswer::Refused(why) => refuse(why.number()),
-        RecordAnswer::Done(r) => put_number(r.ticks),
+        RecordAnswer::Refused(why) => refuse(rt, why.number())?,
+        RecordAnswer::Done(r) => put_number(rt, r.ticks)?,
     }
-    end_line();
+    end_line(rt)
 }
 
-fn make_span(sec: i64, ticks: u64) {
-    io::write_all(libc::STDOUT_FILENO, b"span");
+fn make_span(rt: &impl Print, sec: i64, ticks: u64) -> io::Result<()> {
+    print!(rt; "span")?;
     match Span::new(sec, ticks) {
-        SpanAnswer::Refused(why) => refuse(why.number()),
-        SpanAnswer::Done(s) => put_number(s.ticks),
+        SpanAnswer::Refused(why) => refuse(rt, why.number())?,
+        SpanAnswer::Done(s) => put_number(rt, s.ticks)?,
     }
-    end_line();
+    end_line(rt)
 }
 
-fn refuse(number: u8) {
-    io::write_all(libc::STDOUT_FILENO, b" refused");
-    put_number(number as u64);
+fn refuse(rt: &impl Print, number: u8) -> io::Result<()> {
+    print!(rt; " refused")?;
+    put_number(rt, number as u64)
 }
 
-fn put_number(n: u64) {
-    blank();
-    io::print_decimal(libc::STDOUT_FILENO, n);
+fn put_number(rt: &impl Print, n: u64) -> io::Result<()> {
+    print!(rt; " {n}")
 }
 
-fn put_text(text: &[u8], n: usize) {
-    blank();
+fn put_text(rt: &impl Print, text: &[u8], n: usize) -> io::Result<()> {
+    blank(rt)?;
     if n <= text.len() {
-        io::write_all(libc::STDOUT_FILENO, &text[..n]);
+        rt.write_all(&text[..n])?;
     }
+    Ok(())
 }
 
-fn put_hex(code: &[u8], n: usize) {
-    blank();
-    let mut i: usize = 0;
-    while i < n {
-        if code.len() <= i {
-            return;
-        }
-        put_octet(code[i]);
-        i += 1;
+fn put_hex(rt: &impl Print, code: &[u8], n: usize) -> io::Result<()> {
+    blank(rt)?;
+    for octet in code.iter().take(n) {
+        put_octet(rt, *octet)?;
     }
+    Ok(())
 }
 
-fn put_octet(octet: u8) {
-    io::print_hex(libc::STDOUT_FILENO, octet as u64, 2);
+fn put_octet(rt: &impl Print, octet: u8) -> io::Result<()> {
+    print!(rt; "{octet:02x}")
 }
 
-fn blank() {
-    io::write_all(libc::STDOUT_FILENO, b" ");
+fn blank(rt: &impl Print) -> io::Result<()> {
+    print!(rt; " ")
 }
 
-fn end_line() {
-    io::write_all(libc::STDOUT_FILENO, b"\n");
+fn end_line(rt: &impl Print) -> io::Result<()> {
+    println!(rt; "")
 }
