@@ -6,7 +6,7 @@ use native.Mathlib.Omega.{arith}
 use borrow.Author.Tests.{le-leb, lt-leb}
 use lib.Dec.{leb, lit<}
 use lib.IntN.{ℤ}
-use lib.ListN.{length, get_or}
+use lib.ListN.{length}
 use Rattle.base.specs.Outcome.{Outcome, done, refused, need, and_then}
 use Rattle.base.proofs.Ladders.{never, need_yes, need_no, need_done, then_done, done_is}
 use Rattle.scale.specs.Time.{Time}

@@ -19,7 +19,7 @@ use Rattle.listing.specs.Ends.{Stretch, ends_of}
 pub record Ordered (from to : Time) : Type 0 where
   pub starts : is_record from ≡ true
   pub ends : is_record to ≡ true
-  pub in_order_lem : earlier to from ≡ false
+  pub in_order : earlier to from ≡ false
 
 not_is : (b : Bool) → not b ≡ true → b ≡ false
 not_is b e = sym (not_not b) ∙ ap not e
@@ -35,10 +35,10 @@ module _ (from to : Time) where
       let (p, h₁) = need_done (is_record from) 7 _ b h in
       let (q, h₂) = need_done (is_record to) 7 _ b h₁ in
       let (r, h₃) = need_done (not (earlier to from)) 9 x b h₂ in
-      (record { starts = p; ends = q; in_order_lem = not_is (earlier to from) r }, h₃)
+      (record { starts = p; ends = q; in_order = not_is (earlier to from) r }, h₃)
 
   pub windowed_yes : {A : Type 0} (x : Outcome A) → Ordered from to → windowed from to x ≡ x
-  windowed_yes x o = need_yes 7 _ o.starts ∙ need_yes 7 _ o.ends ∙ need_yes 9 x (ap not o.in_order_lem)
+  windowed_yes x o = need_yes 7 _ o.starts ∙ need_yes 7 _ o.ends ∙ need_yes 9 x (ap not o.in_order)
 
   -- where one is refused by the window, every other is
   pub windowed_refused : {A B : Type 0} (a : A) (y : Outcome B) (n : ℕ) → windowed from to (done a) ≡ refused n → windowed from to y ≡ refused n
@@ -79,7 +79,7 @@ ordered_then a b c o r =
     record {
       starts = o.starts;
       ends = r.ends;
-      in_order_lem =
+      in_order =
           earlier_worth c a tc ta
-          ∙ lt_not (worth c) (worth a) (omega (arith, lt_no (worth b) (worth a) (sym (earlier_worth b a tb ta) ∙ o.in_order_lem), lt_no (worth c) (worth b) (sym (earlier_worth c b tc tb) ∙ r.in_order_lem)));
+          ∙ lt_not (worth c) (worth a) (omega (arith, lt_no (worth b) (worth a) (sym (earlier_worth b a tb ta) ∙ o.in_order), lt_no (worth c) (worth b) (sym (earlier_worth c b tc tb) ∙ r.in_order)));
     }

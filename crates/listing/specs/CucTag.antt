@@ -1,5 +1,5 @@
 -- A CUC tag (document 01, "Shortened tags": "A CUC tag is a P octet and exactly its T-field; extra bytes are 4. It names epoch + T + k × 256^c seconds for every whole k of 0 or more, c being the coarse octets and T taken with its fraction").
-use Rattle.std.specs.Prelude.{Bool, ◌||◌, List, ◌≡◌, ℕ, ◌+◌, ◌*◌, ◌%◌, ◌^◌, leb, eqb, ℤ, pos, ◌+ℤ◌, length, get_or}
+use Rattle.std.specs.Prelude.{List, ◌≡◌, ℕ, ◌+◌, ◌*◌, ◌%◌, ◌^◌, leb, ℤ, pos, ◌+ℤ◌, length}
 use Rattle.base.specs.Outcome.{Outcome, done, refused, need, and_then}
 use Rattle.scale.specs.Time.{Time, per_second, worth}
 use Rattle.window.specs.Seconds.{raised_by}
