@@ -1,7 +1,7 @@
 -- A full code is a tag from which nothing is dropped: its fields, found as a tag's, are those that stand in its fixed places.
 use mathlib.Core.Path.{◌≡◌, refl, sym, ap, ap₂, ◌∙◌}
 use mathlib.Core.Bool.{Bool, true, false, cond, ◌&&◌}
-use mathlib.Core.List.{List, [], ◌++◌}
+use mathlib.Core.List.{List, ◌++◌}
 use Prim.Native.Nat.{ℕ, zero, suc, ◌+◌, ◌-◌, ◌*◌, ◌<◌, ◌≤◌}
 use native.Mathlib.Nat.{add-zero}
 use native.Mathlib.Omega.{arith}
@@ -17,7 +17,6 @@ use Rattle.shape.specs.Parts.{date_a, date_b, full_clock}
 use Rattle.shape.proofs.Tests.{passes, same_is}
 use Rattle.shape.proofs.Shapes.{shape_length, shape_take, shape_drop, each_shape}
 use Rattle.field.specs.Fields.{first_bad, or_then}
-use Rattle.field.specs.Rules.{clock_fields}
 use Rattle.field.proofs.Laws.{first_append}
 use Rattle.ascii.specs.Shapes.{code_shapes}
 use Rattle.ascii.specs.Ascii.{front_of, layout_of, number_at}

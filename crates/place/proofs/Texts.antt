@@ -1,8 +1,8 @@
 -- ASCII texts: those of wrong shape, and those of right shape. A full code is a tag of full forms, and its fields are found as such.
 use mathlib.Core.Path.{◌≡◌, refl, sym, ap}
 use mathlib.Core.Bool.{Bool, true, false, cond}
-use mathlib.Core.List.{List, []}
-use Prim.Native.Nat.{ℕ, ◌-◌}
+use mathlib.Core.List.{List}
+use Prim.Native.Nat.{ℕ}
 use native.Mathlib.Omega.{arith}
 use Rattle.shape.specs.Shapes.{Shapes, shaped, along}
 use Rattle.fit.specs.Fit.{fit_of}

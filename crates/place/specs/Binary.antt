@@ -15,7 +15,6 @@ use Rattle.cds.specs.declared.Layout as D
 use Rattle.ccs.specs.declared.Layout as C
 use Rattle.pfield.specs.PField.{Headed, headed_of}
 use Rattle.pfield.specs.declared.Codes.{Codes}
-use Rattle.pfield.specs.declared.Codes.TheVariants as Codes
 use Rattle.pfield.specs.declared.Layout.{Layout}
 use Rattle.pfield.specs.declared.Layout.TheVariants.{Cuc, Cds, Ccs}
 use Rattle.pfield.specs.declared.Preamble.{Preamble}
