@@ -1,4 +1,4 @@
--- What the private functions ask and answer: the tests of a shape, made directly. No promise cites these; proofs/Shapes says that together they are `shaped codeShapes`.
+-- What the private functions ask and answer: the tests of a shape, made directly. No promise cites these; proofs/Shapes says that together they are `shaped code_shapes`.
 use Rattle.std.specs.Prelude.{◌≡◌, Bool, true, false, cond, ◌&&◌, ◌||◌, List, ℕ, ◌+◌, ◌-◌, ◌^◌, ◌≤◌, eqb, get_or, drop}
 use Rattle.octets.specs.Places.{all_good, digit_good}
 use Rattle.ascii.specs.Ascii.{front_of, part_size, bit, number_at}

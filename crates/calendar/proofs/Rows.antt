@@ -30,7 +30,7 @@ up ls i = rw add-one (up_suc ls i)
 pub up_to_mono : (ls : List ℕ) (i j : ℕ) → i ≤ j → up_to ls i ≤ up_to ls j
 up_to_mono ls = mono (up_to ls) (up ls)
 
--- ---- `monthsTo` is the place whose days hold the d-th, and no other
+-- ---- `months_to` is the place whose days hold the d-th, and no other
 pub months_is : (ls : List ℕ) (i d : ℕ) → i < length ls → 1 ≤ d → d ≤ get_or ls i 0 → months_to ls (up_to ls i + d) ≡ i
 months_is [] i d h p k = absurd (not-suc-le-zero h)
 months_is (l ∷ ls) zero d h p k = rw (le-leb (0 + d) l (omega arith))

@@ -17,7 +17,7 @@ year_length y = 365 + kind y
 unfoldable pub year_start : ℕ → ℕ
 year_start n = 365 * n + n / 4 + n / 400 - n / 100
 
--- the whole years before day n: the estimate by the mean year, or one more; `years-hold` (proofs/Years) has day n in the year after them
+-- the whole years before day n: the estimate by the mean year, or one more; `years_hold` (proofs/Years) has day n in the year after them
 unfoldable pub years_to : ℕ → ℕ
 years_to n = let y = n * 400 / 146097 in cond (leb (year_start (y + 1)) n) (y + 1) y
 

@@ -26,21 +26,27 @@ use Rattle.promises.specs.Promises.{Shortened, counter, letters, list_by, Wanted
 -- ---- a list cut in two
 module _ {B : Type 0} where
   among_take : {z : B} (n : ℕ) (l : List B) → Among z (take n l) → Among z l
+  among_take zero l i = elim i [ ]
+  among_take (suc n) [] i = elim i [ ]
   among_take (suc n) (x ∷ l) here = here
   among_take (suc n) (x ∷ l) (there i) = there (among_take n l i)
 
   among_drop : {z : B} (n : ℕ) (l : List B) → Among z (drop n l) → Among z l
   among_drop zero l i = i
+  among_drop (suc n) [] i = elim i [ ]
   among_drop (suc n) (x ∷ l) i = there (among_drop n l i)
 
   among_split : {z : B} (n : ℕ) (l : List B) → Among z l → Among z (take n l) ⊎ Among z (drop n l)
   among_split zero l i = inr i
+  among_split (suc n) [] i = elim i [ ]
   among_split (suc n) (x ∷ l) here = inl here
   among_split {z} (suc n) (x ∷ l) (there i) = ⊎_elim (λ (j : Among z (take n l)). inl (there j)) (λ (j : Among z (drop n l)). inr j) (among_split n l i)
 
   module _ (R : B → B → Type 0) where
     -- what is cut off comes after what is left
     apart : {y z : B} (n : ℕ) (l : List B) → Ascending R l → Among y (take n l) → Among z (drop n l) → R y z
+    apart zero l a i j = elim i [ ]
+    apart (suc n) [] a i j = elim i [ ]
     apart (suc n) (x ∷ l) (first f a) here j = f _ (among_drop n l j)
     apart (suc n) (x ∷ l) (first f a) (there i) j = apart n l a i j
 
@@ -50,13 +56,15 @@ module _ {B : Type 0} where
   some_left (suc n) (x ∷ l) h = some_left n l (omega arith)
 
   left_some : {z : B} (n : ℕ) (l : List B) → Among z (drop n l) → n < length l
+  left_some zero [] i = elim i [ ]
+  left_some (suc n) [] i = elim i [ ]
   left_some zero (x ∷ l) i = omega arith
   left_some (suc n) (x ∷ l) i = let h = left_some n l i in omega arith
 
 not_self : (z : ℤ) → Sooner z z → ⊥
 not_self z h = omega (arith, lt_yes z z h)
 
--- a list listFilled with as much of another as it has room for
+-- a list list_filled with as much of another as it has room for
 module _ (all entry : List ℤ) where
   abbrev fit : ℕ
   fit = min (length entry) (length all)

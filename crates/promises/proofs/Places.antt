@@ -1,14 +1,14 @@
 -- A refusal carries an offset exactly when its number is 4, and it is that of the first bad field; what is not refused has no bad field (document 02, request 3). By any table.
 use mathlib.Core.Path.{◌≡◌, refl, sym, ap, ap₂, ◌∙◌}
 use mathlib.Core.Bool.{Bool, true, false, cond, ◌&&◌}
-use mathlib.Core.Logic.{◌⊎◌, ⊎_elim}
+use mathlib.Core.Logic.{⊎_elim}
 use mathlib.Core.List.{List, [], ◌∷◌}
-use Prim.Native.Nat.{ℕ, ◌+◌, ◌*◌, ◌^◌, ◌<◌}
+use Prim.Native.Nat.{ℕ, ◌+◌, ◌^◌}
 use native.Mathlib.Omega.{arith}
 use borrow.Author.Tests.{eqb-true}
 use lib.Dec.{eqb, leb, ltb}
 use lib.IntN.{ℤ}
-use lib.ListN.{length, get_or, drop}
+use lib.ListN.{length, get_or}
 use Rattle.base.specs.Outcome.{Outcome, done, refused, status, need, given}
 use Rattle.base.proofs.Bools.{and_true, and_one, and_false}
 use Rattle.base.proofs.Ladders.{never, refused_is, need_done, then_done, then_refused, given_done}
@@ -16,7 +16,7 @@ use Rattle.scale.specs.Time.{Time}
 use Rattle.leap.specs.Table.{Table}
 use Rattle.window.specs.Window.{Named}
 use Rattle.shape.specs.Shapes.{shaped, along}
-use Rattle.field.specs.Fields.{field, first_bad, shifted, or_then, carried}
+use Rattle.field.specs.Fields.{first_bad, shifted, or_then, carried}
 use Rattle.field.specs.declared.Place.{Place}
 use Rattle.field.specs.declared.Place.TheVariants.{At, Nowhere}
 use Rattle.field.proofs.Laws.{is_nowhere, nowhere_is, somewhere_is, first_append, none_field, none_then, date_none, ordinal_none, clock_none}
@@ -25,7 +25,6 @@ use Rattle.ascii.specs.Shapes.{code_shapes}
 use Rattle.ascii.specs.Ascii.{number_at}
 use Rattle.pfield.specs.PField.{Headed, headed, headed_of, ident, allows, laid, laid_as, octet}
 use Rattle.pfield.specs.declared.Codes.{Codes}
-use Rattle.pfield.specs.declared.Codes.TheVariants as Codes
 use Rattle.pfield.specs.declared.PField.{PField}
 use Rattle.pfield.specs.declared.Preamble.{Preamble}
 use Rattle.pfield.specs.declared.Preamble.TheVariants.{Front, Given}

@@ -10,7 +10,6 @@ use lib.ListN.{length}
 use Rattle.base.specs.Outcome.{Outcome, done, refused, and_then}
 use Rattle.base.proofs.Ladders.{never, need_yes, need_no, refused_is}
 use Rattle.scale.specs.Time.{Time, is_record}
-use Rattle.scale.proofs.Laws.{record_ticks}
 use Rattle.leap.specs.Table.{Table}
 use Rattle.leap.specs.Utc.{utc_of_second}
 use Rattle.moment.specs.declared.Moment.{Moment}

@@ -40,7 +40,7 @@ use Rattle.pfield.specs.declared.Layout.TheVariants.{Cuc, Cds, Ccs}
 use Rattle.pfield.proofs.Layouts.{is_layout_of}
 use Rattle.promises.specs.RungsBinary.{count_in, pairs_in, milli_in, part_in, part_good, date_good, index_in, clock_good, second_in, octets_of, field_good, field_rungs}
 use Rattle.promises.specs.Rungs.{Rung, rung, all_hold}
-use Rattle.promises.proofs.Rungs.{verdict, judged, climb, step, need_both, then_need, rung_so, both_ways, given_need, given_climb}
+use Rattle.promises.proofs.Rungs.{verdict, judged, climb, step, need_both, then_need, rung_so, both_ways, given_need}
 use Rattle.promises.proofs.RungsCalendar.{read_rungs}
 
 -- ---- runs of elements

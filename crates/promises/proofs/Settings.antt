@@ -4,12 +4,11 @@ use mathlib.Core.Bool.{Bool, true, false}
 use mathlib.Core.List.{List, [], ◌++◌, append-nil}
 use Prim.Native.Nat.{ℕ, ◌≤◌}
 use native.Mathlib.Omega.{arith}
-use lib.Dec.{leb}
 use lib.IntN.{ℤ}
 use lib.ListN.{length, get_or, take, drop, take-append-drop}
 use lib.Seq.{length-take-le, take_at}
 use Rattle.base.specs.Outcome.{Outcome, done, refused, and_then, given}
-use Rattle.base.proofs.Ladders.{never, need_yes, need_done, then_done, done_is}
+use Rattle.base.proofs.Ladders.{never, need_done, then_done, done_is}
 use Rattle.scale.specs.Time.{Time, is_record}
 use Rattle.scale.proofs.Laws.{record_ticks}
 use Rattle.scale.proofs.Latest.{own_latest, latest_by}
@@ -20,7 +19,7 @@ use Rattle.pfield.specs.PField.{laid, octet}
 use Rattle.pfield.specs.declared.PField.{PField}
 use Rattle.pfield.specs.declared.Codes.TheVariants.{All}
 use Rattle.codes.specs.Reading.{Scanned, scanned, width_of, scan_of, used_of, Readable}
-use Rattle.codes.specs.Writing.{bytes_of, code_of, fronted, write_of, from}
+use Rattle.codes.specs.Writing.{bytes_of, code_of, write_of, from}
 use Rattle.codes.specs.Text.{letters, Spelled}
 use Rattle.pfield.specs.declared.Layout.{Layout}
 use Rattle.codes.specs.Setting.{ascii_of, written}

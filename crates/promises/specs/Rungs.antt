@@ -1,4 +1,4 @@
--- The refusals of a call by their conditions, in their order (document 01, "Refusal numbers", and document 02). A condition that has a sense only once the earlier ones hold is a test all the same, "said of" what they leave: where one of them is broken, `firstBroken` does not come to it.
+-- The refusals of a call by their conditions, in their order (document 01, "Refusal numbers", and document 02). A condition that has a sense only once the earlier ones hold is a test all the same, "said of" what they leave: where one of them is broken, `first_broken` does not come to it.
 use Rattle.std.specs.Prelude.{◌≡◌, Bool, true, false, cond, ◌&&◌, List, [], ◌∷◌, ◌↔◌, ℕ, leb}
 use Rattle.base.specs.Outcome.{Outcome, refused, status}
 use Rattle.promises.specs.Promises.{Done, last_number}
