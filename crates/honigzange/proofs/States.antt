@@ -68,7 +68,7 @@ given_back r low high =
     let e : signed_of (be (octets 8 bits) 8) ≡ r.epoch = ap signed_of (number_places octet_rule 8 bits (bits_low r.epoch low)) ∙ signed_bits r.epoch low high in
     parts_in r.p.octet r.count (octets 8 bits) r.pending (length_places 256 octet_of 8 bits) ∙ (λ i. record { p = r.p; epoch = e i; pending = r.pending; count = r.count })
 
--- so a struct that holds a receiver holds the next one after a call, whatever that came to: the law on receivers (`however-cut`) is one on structs
+-- so a struct that holds a receiver holds the next one after a call, whatever that came to: the law on receivers (`however_cut`) is one on structs
 held_after : (r : Receiver) (x : Outcome Fate) → cell (λ (f : Fate). state_of (next_of r (done f))) x (state_of r) ≡ state_of (next_of r x)
 held_after r (done f) = refl
 held_after r (refused n) = refl
