@@ -2,8 +2,11 @@
 #![tactic(auto)]
 
 ghost use Rattle.std.specs.Prelude.{◌≡◌, true, ◌<◌};
+ghost use Rattle.std.specs.Io.{ReadsAtMost};
 
 use lines::Line;
+use std::io;
+use std::io::{ErrorKind, Read, Write};
 
 // The line so far, and whether to go on.
 #[derive(Clone, Copy)]
@@ -12,54 +15,80 @@ struct Turn {
     more: bool,
 }
 
+// What ends the program before its input does.
+#[derive(Debug, Drop)]
+enum Failure {
+    Input(io::Error),
+    Output(io::Error),
+}
+
 // A signal can interrupt a call before it moves a byte. Such a call is made again, so many times at most.
 const TRIES: u64 = 1000;
 
-fn main() {
-    let mut buf = io::large_buffer();
-    let mut out = io::large_buffer();
-    run(&mut buf, &mut out);
-}
-
-fn run(buf: &mut [u8], out: &mut [u8]) {
-    let held = pump(buf, out);
-    let w = lines::finish(held, out);
-    write_out(&out[..w]);
-}
-
-// A proved loop has to end, and nothing says that the input does: the turns are counted down from a number that no
-// run uses up.
-fn pump(buf: &mut [u8], out: &mut [u8]) -> Line {
-    let mut held = lines::start();
-    let mut turns = u64::MAX;
-    while turns > 0 {
-        let t = read_once(held, buf, out);
-        held = t.line;
-        let more = t.more;
-        if !more {
-            return held;
-        }
-        turns -= 1;
+fn main(rt: HostRuntime) {
+    let mut input = rt.stdin();
+    let mut output = rt.stdout();
+    let mut buf = [0u8; 65536];
+    let mut out = [0u8; 65536];
+    match run(&mut input, &mut output, &mut buf, &mut out) {
+        Ok(()) => {}
+        Err(Failure::Input(error)) => input_failed(&rt, &error),
+        Err(Failure::Output(error)) => output_failed(&rt, &error),
     }
-    held
+}
+
+fn run<R: Read, W: Write>(
+    input: &mut R,
+    output: &mut W,
+    buf: &mut [u8],
+    out: &mut [u8],
+) -> Result<(), Failure> {
+    let held = pump(input, output, buf, out)?;
+    let w = lines::finish(held, out);
+    write_out(output, &out[..w])
+}
+
+// A proved loop has to end, and nothing says that the input does: the turns are counted up to a number that no run
+// reaches.
+fn pump<R: Read, W: Write>(
+    input: &mut R,
+    output: &mut W,
+    buf: &mut [u8],
+    out: &mut [u8],
+) -> Result<Line, Failure> {
+    let mut held = lines::start();
+    for _ in 0..u64::MAX {
+        let t = read_once(held, input, output, buf, out)?;
+        held = t.line;
+        if !t.more {
+            return Ok(held);
+        }
+    }
+    Ok(held)
 }
 
 // Reads once, and answers whether to go on. After a read that fails, what is held is no line: its rest was not read.
-fn read_once(line: Line, buf: &mut [u8], out: &mut [u8]) -> Turn {
-    let got = read_in(buf);
-    if got < 0 {
-        input_failed();
-        return dropped();
-    }
-    let n = io::count(got, buf);
+fn read_once<R: Read, W: Write>(
+    line: Line,
+    input: &mut R,
+    output: &mut W,
+    buf: &mut [u8],
+    out: &mut [u8],
+) -> Result<Turn, Failure> {
+    let n = read_in(input, buf)?;
     if n == 0 {
-        return Turn { line, more: false };
+        return Ok(Turn { line, more: false });
     }
-    drain(line, &buf[..n], out)
+    drain(line, &buf[..n], output, out)
 }
 
 // Answers what a piece holds, and writes each buffer of answers. After a write that fails, nothing more is written.
-fn drain(line: Line, piece: &[u8], out: &mut [u8]) -> Turn {
+fn drain<W: Write>(
+    line: Line,
+    piece: &[u8],
+    output: &mut W,
+    out: &mut [u8],
+) -> Result<Turn, Failure> {
     let mut held = line;
     let mut at: usize = 0;
     while at < piece.len() {
@@ -68,18 +97,15 @@ fn drain(line: Line, piece: &[u8], out: &mut [u8]) -> Turn {
         let u = fed.used;
         held = fed.line;
         if u == 0 {
-            return dropped();
+            return Ok(dropped());
         }
         at += u;
-        let is_written = write_out(&out[..w]);
-        if !is_written {
-            return dropped();
-        }
+        write_out(output, &out[..w])?;
     }
-    Turn {
+    Ok(Turn {
         line: held,
         more: true,
-    }
+    })
 }
 
 // The end, with nothing left to answer.
@@ -91,55 +117,76 @@ fn dropped() -> Turn {
     }
 }
 
-// Reads what there is: how many bytes, 0 at the end of the input, or less than 0 where it fails.
-fn read_in(buf: &mut [u8]) -> isize {
+// Reads what there is: how many bytes, or 0 at the end of the input.
+fn read_in<R: Read>(input: &mut R, buf: &mut [u8]) -> Result<usize, Failure>
+    ensures { ReadsAtMost result buf.new }
+{
     let mut tries = TRIES;
-    let mut got = libc::read(libc::STDIN_FILENO, buf);
-    while got < 0 {
-        if !again(tries) {
-            return got;
+    loop {
+        match input.read(buf) {
+            Ok(n) => return Ok(n),
+            Err(error) => {
+                if !again(tries, &error) {
+                    return Err(Failure::Input(error));
+                }
+                tries -= 1;
+            }
         }
-        tries -= 1;
-        got = libc::read(libc::STDIN_FILENO, buf);
     }
-    got
 }
 
-// Writes all of the bytes, or says that it failed.
-fn write_out(bytes: &[u8]) -> bool {
+// Writes all of the bytes.
+fn write_out<W: Write>(output: &mut W, bytes: &[u8]) -> Result<(), Failure> {
     let mut tries = TRIES;
     let mut at: usize = 0;
     while at < bytes.len() {
-        let rest = &bytes[at..];
-        let put = libc::write(libc::STDOUT_FILENO, rest);
-        let n = io::count(put, rest);
-        if n == 0 {
-            if !again(tries) {
-                output_failed();
-                return false;
+        match output.write(&bytes[at..]) {
+            Ok(0) => return Err(Failure::Output(io::Error::from(ErrorKind::WriteZero))),
+            Ok(n) => at += n,
+            Err(error) => {
+                if !again(tries, &error) {
+                    return Err(Failure::Output(error));
+                }
+                tries -= 1;
             }
-            tries -= 1;
-        } else {
-            at += n;
         }
     }
-    true
+    Ok(())
 }
 
 // Whether to make a call again that moved nothing: it was interrupted, and tries are left.
-fn again(tries: u64) -> bool
+fn again(tries: u64, error: &io::Error) -> bool
     ensures { result ≡ true → 0 < tries }
 {
     if tries == 0 {
         return false;
     }
-    os::errno() == libc::EINTR
+    error.kind() == ErrorKind::Interrupted
 }
 
-fn input_failed() {
-    os::fail(b"zange: standard input");
+fn input_failed(rt: &(impl Eprint + Alloc), error: &io::Error) {
+    fail(rt, "zange: standard input", error);
 }
 
-fn output_failed() {
-    os::fail(b"zange: standard output");
+fn output_failed(rt: &(impl Eprint + Alloc), error: &io::Error) {
+    fail(rt, "zange: standard output", error);
+}
+
+// A line on standard error: what failed, and the system's words for it.
+fn fail(rt: &(impl Eprint + Alloc), what: &str, error: &io::Error) {
+    let _ = match format!(in rt.alloc(); "{error}") {
+        Ok(text) => {
+            let words = without_number(text.as_str());
+            eprintln!(rt; "{what}: {words}")
+        }
+        Err(_) => eprintln!(rt; "{what}: {error}"),
+    };
+}
+
+// An error's text without the number that std puts behind the system's words.
+fn without_number(text: &str) -> &str {
+    match text.split_once(" (os error ") {
+        Some((words, _)) => words,
+        None => text,
+    }
 }
