@@ -3,6 +3,8 @@
 // Standard input is binary codes end to end, each behind its P octet.
 #![tactic(auto)]
 
+ghost use Rattle.std.specs.Io.{ReadsAtMost};
+
 use codes::ScanAnswer;
 use codes::setting::Setting;
 use octets::Written;
@@ -11,18 +13,30 @@ use scale::{Record, RecordAnswer, Span, SpanAnswer};
 use std::io;
 use std::io::Read;
 
-// Of a longer input the first bytes are read.
-const ROOM: u64 = 4096;
-
 fn main(rt: HostRuntime) -> io::Result<()> {
     make_record(&rt, -2199023255552, 0)?;
     make_record(&rt, 2199023255552, 0)?;
     make_record(&rt, 0, Record::TICKS)?;
     make_span(&rt, -4398046511104, Record::TICKS - 1)?;
     make_span(&rt, 4398046511104, 0)?;
-    let mut s = Vec::new(rt.alloc());
-    rt.stdin().take(ROOM).read_to_end(&mut s)?;
-    run(&rt, &s)
+    let mut buf = [0u8; 4096];
+    let n = read_full(&mut rt.stdin(), &mut buf)?;
+    run(&rt, &buf[..n])
+}
+
+// Reads until the buffer is full or the input ends, and answers how many bytes it put at the start of it.
+fn read_full<R: Read>(input: &mut R, buf: &mut [u8]) -> io::Result<usize>
+    ensures { ReadsAtMost result buf.new }
+{
+    let mut done: usize = 0;
+    while done < buf.len() {
+        let n = input.read(&mut buf[done..])?;
+        if n == 0 {
+            break;
+        }
+        done += n;
+    }
+    Ok(done)
 }
 
 // Each code in turn, until one is refused or none is left.
