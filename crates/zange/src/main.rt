@@ -6,7 +6,7 @@ ghost use Rattle.std.specs.Io.{ReadsAtMost};
 
 use lines::Line;
 use std::io;
-use std::io::{ErrorKind, Read, Write};
+use std::io::{Cursor, ErrorKind, Read, Write};
 
 // The line so far, and whether to go on.
 #[derive(Clone, Copy)]
@@ -164,19 +164,28 @@ fn again(tries: u64, error: &io::Error) -> bool
     error.kind() == ErrorKind::Interrupted
 }
 
-fn input_failed(rt: &(impl Eprint + Alloc), error: &io::Error) {
+fn input_failed(rt: &impl Eprint, error: &io::Error) {
     fail(rt, "zange: standard input", error);
 }
 
-fn output_failed(rt: &(impl Eprint + Alloc), error: &io::Error) {
+fn output_failed(rt: &impl Eprint, error: &io::Error) {
     fail(rt, "zange: standard output", error);
 }
 
-// A line on standard error: what failed, and the system's words for it.
-fn fail(rt: &(impl Eprint + Alloc), what: &str, error: &io::Error) {
-    let _ = match format!(in rt.alloc(); "{error}") {
-        Ok(text) => {
-            let words = without_number(text.as_str());
+// A line on standard error: what failed, and the system's words for it. They are short; of longer ones the start would stand.
+fn fail(rt: &impl Eprint, what: &str, error: &io::Error) {
+    let mut said = Cursor::new([0u8; 256]);
+    let _ = write!(said, "{error}");
+    let text = said.get_ref();
+    let n = said.position() as usize;
+    let words = if n <= text.len() {
+        &text[..n]
+    } else {
+        &text[..]
+    };
+    let _ = match str::from_utf8(words) {
+        Ok(words) => {
+            let words = without_number(words);
             eprintln!(rt; "{what}: {words}")
         }
         Err(_) => eprintln!(rt; "{what}: {error}"),
