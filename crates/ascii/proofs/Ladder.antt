@@ -1,16 +1,16 @@
 -- The rungs of reading and of writing, one law for each kind of return; and what a ladder that ends in a value tells.
-use mathlib.Core.Path.{◌≡◌, sym, ap, ◌∙◌}
-use mathlib.Core.Bool.{true, false}
+use mathlib.Core.Path.{◌≡◌, refl, ap, ◌∙◌}
+use mathlib.Core.Bool.{Bool, true, false, ◌&&◌}
 use mathlib.Core.List.{List}
-use Prim.Native.Nat.{ℕ, ◌+◌, ◌-◌, ◌<◌, ◌≤◌}
+use Prim.Native.Nat.{ℕ, ◌+◌, ◌-◌, ◌≤◌}
 use native.Mathlib.Omega.{arith}
-use lib.Dec.{leb}
+use lib.Dec.{leb, eqb}
 use lib.IntN.{ℤ, pos, negsuc, nat_abs, ◌+ℤ◌}
 use lib.ListN.{length}
-use borrow.Author.Tests.{le-leb, lt-leb, leb-true}
+use borrow.Author.Tests.{le-leb, leb-true, eq-eqb, eqb-true}
 use Rattle.base.specs.Outcome.{Outcome, done, refused, need, and_then}
 use Rattle.base.specs.Parts.{within}
-use Rattle.base.proofs.Bools.{never_both, by_two}
+use Rattle.base.proofs.Bools.{never_both, by_two, and_true}
 use Rattle.base.proofs.Ladders.{done_is, need_yes, need_no, need_done, then_done}
 use Rattle.base.proofs.Signed.{within_high}
 use Rattle.calendar.specs.Gregorian.{from_epoch, index_of_day}
@@ -23,45 +23,41 @@ use Rattle.ascii.specs.declared.Layout.{Layout}
 use Rattle.ascii.specs.Shapes.{code_shapes}
 use Rattle.moment.specs.Decimal.{ticks_of}
 use Rattle.ascii.specs.Ascii.{is_layout, front_of, width, layout_of, number_at, day_at, clock_at, fields_of, text, code_text, part_of, bytes_of}
-use Rattle.ascii.specs.Inner.{figures, separators, Placed}
+use Rattle.ascii.specs.Inner.{figures, separators}
 use Rattle.ascii.proofs.Shapes.{shaped_right, right_shaped}
-use Rattle.ascii.proofs.Sizes.{front_in, placed_width}
+use Rattle.ascii.proofs.Sizes.{front_in, placed_by, placed_width}
 
--- ---- what makes a shape wrong
+-- ---- a text's shape, in the tests that are made: its length, its layout's length, its separators and its digits
+needs : {A : Type 0} (a b : Bool) (n : ℕ) (x : Outcome A) → need (a && b) n x ≡ need a n (need b n x)
+needs true b n x = refl
+needs false b n x = refl
+
 module _ (s : List ℕ) where
-  pub too_short : length s < 17 → shaped code_shapes s ≡ false
-  too_short h = fails (shaped code_shapes s) (λ e. omega (arith, (shaped_right s e).0.size, front_in (layout_of s).ordinal))
+  abbrev l : Layout
+  l = layout_of s
 
-  pub other_length : (width (layout_of s) ≡ length s → ⊥) → shaped code_shapes s ≡ false
-  other_length f = fails (shaped code_shapes s) (λ e. f (placed_width (layout_of s) (length s) (shaped_right s e).0))
+  tests : shaped code_shapes s ≡ leb 17 (length s) && (eqb (width l) (length s) && (separators l s && figures l s))
+  tests = by_two (shaped code_shapes s) _ there back
+    where
+      there : shaped code_shapes s ≡ true → leb 17 (length s) && (eqb (width l) (length s) && (separators l s && figures l s)) ≡ true
+      there e =
+          let (p, r) = shaped_right s e in
+          rw (le-leb 17 (length s) (omega (arith, p.size, front_in l.ordinal)), eq-eqb (width l) (length s) (placed_width l (length s) p), r.seps, r.figs)
 
-  pub other_marks : separators (layout_of s) s ≡ false → shaped code_shapes s ≡ false
-  other_marks f = fails (shaped code_shapes s) (λ e. never_both (shaped_right s e).1.seps f)
+      back : shaped code_shapes s ≡ false → leb 17 (length s) && (eqb (width l) (length s) && (separators l s && figures l s)) ≡ false
+      back e = fails _ (λ f.
+          let (a, g) = and_true (leb 17 (length s)) _ f in
+          let (b, h) = and_true (eqb (width l) (length s)) _ g in
+          let (c, d) = and_true (separators l s) (figures l s) h in
+          never_both (right_shaped s (placed_by l (length s) (omega (arith, leb-true 17 (length s) a)) (eqb-true _ _ b)) c d) e)
 
-  pub no_figures : figures (layout_of s) s ≡ false → shaped code_shapes s ≡ false
-  no_figures f = fails (shaped code_shapes s) (λ e. never_both (shaped_right s e).1.figs f)
-
-  -- where its length and separators are right, its digits decide
-  pub only_figures : Placed (layout_of s) (length s) → separators (layout_of s) s ≡ true → figures (layout_of s) s ≡ shaped code_shapes s
-  only_figures p q = by_two (figures (layout_of s) s) (shaped code_shapes s) (λ f. right_shaped s p q f) no_figures
-
-  -- ---- what reading answers then
-  pub text_empty : length s < 1 → text s ≡ refused 1
+  pub text_told : text s ≡ need (leb 1 (length s)) 1 (need (leb 17 (length s)) 4 (need (eqb (width l) (length s)) 4 (need (separators l s) 4 (need (figures l s) 4 (fields_of l s)))))
   unfolding text
-  text_empty h = need_no 1 _ (lt-leb 1 (length s) h)
+  text_told = rw (tests, needs (leb 17 (length s)) _ 4 (fields_of l s), needs (eqb (width l) (length s)) _ 4 (fields_of l s), needs (separators l s) _ 4 (fields_of l s)) refl
 
-  module _ (h : 1 ≤ length s) where
-    pub text_wrong : shaped code_shapes s ≡ false → text s ≡ refused 4
-    unfolding text
-    text_wrong e = need_yes 1 _ (le-leb 1 (length s) h) ∙ need_no 4 _ e
-
-    pub text_fields : Placed (layout_of s) (length s) → separators (layout_of s) s ≡ true → need (figures (layout_of s) s) 4 (fields_of (layout_of s) s) ≡ text s
-    unfolding text
-    text_fields p q = rw (only_figures p q) (sym (need_yes 1 _ (le-leb 1 (length s) h)))
-
-    pub text_shaped : shaped code_shapes s ≡ true → text s ≡ fields_of (layout_of s) s
-    unfolding text
-    text_shaped e = need_yes 1 _ (le-leb 1 (length s) h) ∙ need_yes 4 _ e
+  pub text_shaped : 1 ≤ length s → shaped code_shapes s ≡ true → text s ≡ fields_of (layout_of s) s
+  unfolding text
+  text_shaped h e = need_yes 1 _ (le-leb 1 (length s) h) ∙ need_yes 4 _ e
 
 -- ---- a text that reads, taken apart
 pub record Told (s : List ℕ) (m : Moment) : Type 0 where

@@ -2,10 +2,12 @@
 use mathlib.Core.Path.{◌≡◌}
 use mathlib.Core.List.{List}
 use Prim.Native.Nat.{ℕ}
-use Rattle.moment.specs.Moment.{says_moment}
-use Rattle.moment.specs.declared.MomentAnswer.{MomentAnswer}
-use Rattle.moment.proofs.Once.{moment_once}
+use Rattle.base.proofs.Once.{said_once}
+use Rattle.moment.specs.declared.Moment.{Moment}
 use Rattle.ascii.specs.Ascii.{text}
+use Rattle.base.specs.Said.{said}
+use Rattle.std.specs.Prelude.{Result}
+use Rattle.base.specs.declared.Refusal.{Refusal}
 
-pub read_once : (s : List ℕ) (a b : MomentAnswer) → says_moment a ≡ text s → says_moment b ≡ text s → a ≡ b
-read_once s a b p q = moment_once (text s) a b p q
+pub read_once : (s : List ℕ) (a b : Result Moment Refusal) → said a ≡ text s → said b ≡ text s → a ≡ b
+read_once s a b p q = said_once (text s) a b p q

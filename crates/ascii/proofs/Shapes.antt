@@ -17,7 +17,8 @@ use Rattle.shape.proofs.Pieces.{Piece, sep, num, spell, outline, size, clean, St
 use Rattle.ascii.specs.declared.Layout.{Layout}
 use Rattle.ascii.specs.Shapes.{code_shapes}
 use Rattle.ascii.specs.Ascii.{is_layout, front_of, part_size, bit, layout_of, day_text, clock_text, fraction_text, zone_text, code_text}
-use Rattle.ascii.specs.Inner.{figures_at, date_figures, clock_figures, figures, marked, separators, Placed}
+use Rattle.ascii.proofs.Sizes.{Placed}
+use Rattle.ascii.specs.Inner.{figures_at, date_figures, clock_figures, figures, marked, separators}
 
 abbrev pub lay : Bool → ℕ → Bool → Layout
 lay o d z = record { ordinal = o; digits = d; zone = z }

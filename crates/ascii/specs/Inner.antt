@@ -1,16 +1,12 @@
 -- What the private functions ask and answer: the tests of a shape, made directly. No promise cites these; proofs/Shapes says that together they are `shaped code_shapes`.
-use Rattle.std.specs.Prelude.{◌≡◌, Bool, true, false, cond, ◌&&◌, ◌||◌, List, ℕ, ◌+◌, ◌-◌, ◌^◌, ◌≤◌, eqb, get_or, drop}
+use Rattle.std.specs.Prelude.{Bool, true, false, ◌&&◌, ◌||◌, List, ℕ, ◌+◌, ◌-◌, eqb, get_or, drop}
 use Rattle.octets.specs.Places.{all_good, digit_good}
-use Rattle.ascii.specs.Ascii.{front_of, part_size, bit, number_at}
+use Rattle.ascii.specs.Ascii.{front_of}
 use Rattle.ascii.specs.declared.Layout.{Layout}
 
 -- w digits stand from a place on
 abbrev pub figures_at : List ℕ → ℕ → ℕ → Bool
 figures_at s at w = all_good digit_good (drop at s) w
-
--- their number, or the first one past all that w digits write
-abbrev pub read_as : List ℕ → ℕ → ℕ → ℕ
-read_as s at w = cond (figures_at s at w) (number_at s at w) (10 ^ w)
 
 unfoldable pub date_figures : Bool → List ℕ → Bool
 date_figures true s = figures_at s 0 4 && figures_at s 5 3
@@ -34,8 +30,3 @@ separators l s =
     && (marked s (front_of l.ordinal - 6) 58
     && (marked s (front_of l.ordinal - 3) 58
     && (eqb l.digits 0 || marked s (front_of l.ordinal) 46))))
-
--- a text as long as its layout's codes
-pub record Placed (l : Layout) (n : ℕ) : Type 0 where
-  pub few : l.digits ≤ 12
-  pub size : n ≡ front_of l.ordinal + part_size l.digits + bit l.zone

@@ -1,99 +1,124 @@
 -- How the texts of a code are put in one after another.
 use mathlib.Core.Path.{◌≡◌, refl, sym, ap, ◌∙◌}
 use mathlib.Core.Bool.{Bool, true, false}
-use mathlib.Core.List.{List, [], ◌∷◌, ◌++◌, append_assoc}
-use Prim.Native.Nat.{ℕ, zero, suc, ◌+◌, ◌-◌, ◌*◌, ◌/◌, ◌%◌, ◌^◌, ◌<◌, ◌≤◌}
+use mathlib.Core.List.{List, ◌∷◌, ◌++◌, append_assoc}
+use Prim.Native.Nat.{ℕ, zero, suc, ◌+◌, ◌*◌, ◌/◌, ◌%◌, ◌^◌, ◌<◌, ◌≤◌}
 use native.Mathlib.Omega.{arith}
-use lib.Dec.{lit<}
+use lib.Dec.{lit<, leb}
 use lib.ListN.{length, set, length-set, length-append}
 use Rattle.octets.specs.Places.{digit_of, digits}
 use Rattle.octets.specs.Stores.{pasted, Stored}
 use Rattle.octets.proofs.Places.{places_append}
-use Rattle.octets.proofs.Pastes.{paste_none, paste_cons, paste_one, stored, then}
+use Rattle.octets.proofs.Pastes.{length_pasted, paste_none, paste_cons, stored, then}
 use Rattle.calendar.specs.Gregorian.{ordinal_on, date_in}
 use Rattle.calendar.specs.declared.Ordinal.{Ordinal}
 use Rattle.calendar.specs.declared.Date.{Date}
-use Rattle.clock.specs.Clock.{minute_of}
+use borrow.Rule.Slice.PartMut.{put_mid}
+use lib.Seq.{drop-drop}
+use borrow.Author.Tests.{leb-true, leb-false}
+use Rattle.octets.specs.Writes.{roomed, Wrote}
+use Rattle.octets.proofs.Writes.{refuses, room_out, room_in, fills}
+use Rattle.base.specs.declared.Refusal.TheVariants.{Room}
+use Rattle.std.specs.Prelude.{Result, Ok, Err}
+use Rattle.base.specs.Said.{said}
+use Rattle.base.specs.declared.Refusal.{Refusal}
+use Rattle.base.proofs.Once.{said_done}
+use Rattle.base.proofs.Ladders.{done_is}
+use Rattle.calendar.specs.Gregorian.{ordinal_at, date_at}
+use Rattle.calendar.proofs.Promises.{ordinal_at_done, date_at_done}
+use Rattle.scale.specs.Time.{per_second}
+use Rattle.moment.proofs.Decimal.{grain}
 use Rattle.ascii.specs.declared.Layout.{Layout}
-use Rattle.ascii.specs.Ascii.{front_of, part_size, width, lead, day_text, clock_text, fraction_text, zone_text, code_text}
-use Rattle.ascii.proofs.Texts.{digits_length, day_length_lem, clock_length, fraction_length}
-use Rattle.ascii.proofs.Sizes.{width_of}
+use Rattle.ascii.specs.Ascii.{width, lead, day_text, clock_text, fraction_text, zone_text, code_text}
+use Rattle.ascii.proofs.Texts.{code_width, digits_length}
 
--- ---- a character and digits
-pub put_mark : (old : List ℕ) {new : List ℕ} {r : Bool} (at w n c : ℕ) → at + 1 + w ≤ length old → Stored (digits w n) (at + 1) (set old at c) new r → new ≡ pasted old at (lead c w n)
-put_mark old at w n c h s =
-    (stored (let z : at + 1 + length (digits w n) ≤ length (set old at c) = omega (arith, digits_length w n, length-set old at c) in z) s).1
-    ∙ paste_cons old at c (digits w n) (omega arith)
+-- ---- a period and digits
+pub lead_length : (w n : ℕ) → length (lead 46 w n) ≡ 1 + w
+lead_length w n = omega (arith, digits_length w n)
 
--- two digits one by one, and four by twos
-pub put_two_digits : (old : List ℕ) (at n : ℕ) → n < 100 → at + 2 ≤ length old → set (set old at (48 + n / 10)) (at + 1) (48 + n % 10) ≡ pasted old at (digits 2 n)
-put_two_digits old at n l h =
-    let x = 48 + n / 10 in
-    let y = 48 + n % 10 in
-    let d : n / 10 ≡ n / 10 % 10 = omega arith in
-    paste_one (set old at x) (at + 1) y (omega (arith, length-set old at x))
-    ∙ paste_cons old at x (y ∷ []) (omega arith)
-    ∙ ap (λ (z : ℕ). pasted old at ((48 + z) ∷ y ∷ [])) d
+pub put_mark : (old : List ℕ) {new : List ℕ} {r : Bool} (at w n : ℕ) → at + 1 + w ≤ length old → Stored (digits w n) (at + 1) (set old at 46) new r → new ≡ pasted old at (lead 46 w n)
+put_mark old at w n h s =
+    (stored (let z : at + 1 + length (digits w n) ≤ length (set old at 46) = omega (arith, digits_length w n, length-set old at 46) in z) s).1
+    ∙ paste_cons old at 46 (digits w n) (omega arith)
 
-year_digits : (n h : ℕ) → h ≡ n / 100 → digits 2 h ++ digits 2 (n - h * 100) ≡ digits 4 n
-year_digits n h e =
-    let z : h * 10 ^ 2 + (n - h * 100) ≡ n = omega arith in
-    sym (places_append 10 digit_of (lit< tt) 2 2 h (n - h * 100) (omega arith)) ∙ ap (digits 4) z
+-- four digits by twos, and three by one and two
+pub four : (n : ℕ) → digits 2 (n / 100) ++ digits 2 (n % 100) ≡ digits 4 n
+four n =
+    let z : n / 100 * 10 ^ 2 + n % 100 ≡ n = omega arith in
+    sym (places_append 10 digit_of (lit< tt) 2 2 (n / 100) (n % 100) (omega arith)) ∙ ap (digits 4) z
 
-pub put_year : (old a b : List ℕ) (at n h : ℕ) → h ≡ n / 100 → at + 4 ≤ length old → a ≡ pasted old at (digits 2 h) → b ≡ pasted a (at + 2) (digits 2 (n - h * 100)) → b ≡ pasted old at (digits 4 n)
-put_year old a b at n h e l p q =
-    then old (digits 2 h) (digits 2 (n - h * 100)) at (at + 2) p q (omega (arith, digits_length 2 h)) (omega arith)
-    ∙ ap (pasted old at) (year_digits n h e)
-
--- ---- dates
-pub put_two : (old a b : List ℕ) (n at : ℕ) (o : Ordinal) → ordinal_on n ≡ o → at + 8 ≤ length old → a ≡ pasted old at (digits 4 o.year) → b ≡ pasted a (at + 4) (lead 45 3 o.day) → b ≡ pasted old at (day_text true n)
-unfolding day_text
-put_two old a b n at o e h p q =
-    rw e (then old (digits 4 o.year) (lead 45 3 o.day) at (at + 4) p q (omega (arith, digits_length 4 o.year)) (omega arith))
-
-pub put_three : (old a b c : List ℕ) (n at : ℕ) (t : Date) → date_in (ordinal_on n) ≡ t → at + 10 ≤ length old → a ≡ pasted old at (digits 4 t.year) → b ≡ pasted a (at + 4) (lead 45 2 t.month) → c ≡ pasted b (at + 7) (lead 45 2 t.day) → c ≡ pasted old at (day_text false n)
-unfolding day_text
-put_three old a b c n at t e h p q r =
-    let y = digits 4 t.year in
-    let m = lead 45 2 t.month in
-    let d = lead 45 2 t.day in
-    let two = then old y m at (at + 4) p q (omega (arith, digits_length 4 t.year)) (omega arith) in
-    let three = then old (y ++ m) d at (at + 7) two r (omega (arith, digits_length 4 t.year, digits_length 2 t.month, length-append y m)) (omega arith) in
-    rw e (rw (append_assoc y m d) at three)
-
--- ---- clocks
-pub put_clock : (old a b c : List ℕ) (at n m : ℕ) → m ≡ minute_of n → at + 9 ≤ length old → a ≡ pasted old at (lead 84 2 (m / 60)) → b ≡ pasted a (at + 3) (lead 58 2 (m % 60)) → c ≡ pasted b (at + 6) (lead 58 2 (n - m * 60)) → c ≡ pasted old at (clock_text n)
-unfolding clock_text
-put_clock old a b c at n m e h p q r =
-    let x = lead 84 2 (m / 60) in
-    let y = lead 58 2 (m % 60) in
-    let z = lead 58 2 (n - m * 60) in
-    let two = then old x y at (at + 3) p q (omega (arith, digits_length 2 (m / 60))) (omega arith) in
-    let three = then old (x ++ y) z at (at + 6) two r (omega (arith, digits_length 2 (m / 60), digits_length 2 (m % 60), length-append x y)) (omega arith) in
-    rw (← e) (rw (append_assoc x y z) at three)
+pub three : (n : ℕ) → n < 1000 → (48 + n / 100) ∷ digits 2 (n % 100) ≡ digits 3 n
+three n h =
+    let a : n / 100 ≡ n / 100 % 10 = omega arith in
+    let z : n / 100 * 10 ^ 2 + n % 100 ≡ n = omega arith in
+    ap (λ x. (48 + x) ∷ digits 2 (n % 100)) a
+    ∙ sym (places_append 10 digit_of (lit< tt) 1 2 (n / 100) (n % 100) (omega arith))
+    ∙ ap (digits 3) z
 
 -- ---- fractions
-pub no_fraction : (old : List ℕ) (at d f : ℕ) → d ≡ 0 → old ≡ pasted old at (fraction_text d f)
-no_fraction old at d f e = rw e (paste_none old at)
+pub no_fraction : (old : List ℕ) (at d f : ℕ) → d ≡ 0 → (length (fraction_text d f) ≡ 0) × (old ≡ pasted old at (fraction_text d f))
+no_fraction old at d f e = rw e (refl, paste_none old at)
 
-pub some_fraction : (d f : ℕ) → (d ≡ 0 → ⊥) → lead 46 d f ≡ fraction_text d f
+pub some_fraction : (d f : ℕ) → (d ≡ 0 → ⊥) → (fraction_text d f ≡ lead 46 d f) × (length (fraction_text d f) ≡ 1 + d)
 some_fraction zero f n = absurd (n refl)
-some_fraction (suc d) f n = refl
+some_fraction (suc d) f n = (refl, lead_length (suc d) f)
 
--- ---- the whole
-pub put_parts : (l : Layout) (n x f : ℕ) (old a b c e : List ℕ) (at t u : ℕ) → l.digits ≤ 12 → at + width l ≤ length old → t + 9 ≡ at + front_of l.ordinal → u ≡ t + 9 + part_size l.digits
-    → a ≡ pasted old at (day_text l.ordinal n) → b ≡ pasted a t (clock_text x) → c ≡ pasted b (t + 9) (fraction_text l.digits f) → e ≡ pasted c u (zone_text l.zone) → e ≡ pasted old at (code_text l n x f)
-unfolding code_text
-put_parts l n x f old a b c e at t u few h i j p q r s =
-    let d = day_text l.ordinal n in
-    let k = clock_text x in
-    let g = fraction_text l.digits f in
-    let z = zone_text l.zone in
-    let w = width_of l few in
-    let dl = day_length_lem l.ordinal n in
-    let kl = clock_length x in
-    let gl = fraction_length l.digits f in
-    let two = then old d k at t p q (omega arith) (omega arith) in
-    let three = then old (d ++ k) g at (t + 9) two r (omega (arith, length-append d k)) (omega arith) in
-    let four = then old (d ++ k ++ g) z at u three s (omega (arith, length-append d k, length-append (d ++ k) g)) (omega arith) in
+pub ruleset fractions = (no_fraction, some_fraction)
+
+pub no_zone : (old : List ℕ) (at : ℕ) → old ≡ pasted old at (zone_text false)
+no_zone old at = paste_none old at
+
+-- a text that is put leaves the length
+pub kept : (old new t : List ℕ) (at : ℕ) → new ≡ pasted old at t → at + length t ≤ length old → length new ≡ length old
+kept old new t at e h = ap length e ∙ length_pasted old at t h
+
+-- ---- the whole: four texts, each put where the one before it ends
+put_four : (old d k g z : List ℕ) {a b c e : List ℕ} {t u v : ℕ} (at : ℕ) → t ≡ at + length d → u ≡ t + length k → v ≡ u + length g → v + length z ≤ length old → a ≡ pasted old at d → b ≡ pasted a t k → c ≡ pasted b u g → e ≡ pasted c v z → e ≡ pasted old at (d ++ (k ++ (g ++ z)))
+put_four old d k g z {a} {b} {c} {e} {t} {u} {v} at h i j l p q r s =
+    let two = then old d k at t p q h (omega arith) in
+    let three = then old (d ++ k) g at u two r (omega (arith, length-append d k)) (omega arith) in
+    let four = then old (d ++ k ++ g) z at v three s (omega (arith, length-append d k, length-append (d ++ k) g)) (omega arith) in
     simp append_assoc at four
+
+module _ (l : Layout) (n x f : ℕ) where
+  pub parts_length : l.digits ≤ 12 → width l ≡ length (day_text l.ordinal n) + length (clock_text x) + length (fraction_text l.digits f) + length (zone_text l.zone)
+  unfolding code_text
+  parts_length h = sym (code_width l n x f h) ∙ simp length-append (omega arith)
+
+  module _ (old : List ℕ) (at : ℕ) (few : l.digits ≤ 12) where
+    abbrev code : List ℕ
+    code = code_text l n x f
+
+    pub no_room : leb (at + width l) (length old) ≡ false → Wrote (roomed old at code) at old old (Err Room)
+    no_room h = refuses Room _ at old (room_out code at old (omega (arith, code_width l n x f few, leb-false _ _ h)))
+
+    pub put_parts : leb (at + width l) (length old) ≡ true → {a b c e : List ℕ} {t u v w : ℕ} → t ≡ at + length (day_text l.ordinal n) → u ≡ t + length (clock_text x) → v ≡ u + length (fraction_text l.digits f) → w ≡ v + length (zone_text l.zone)
+        → a ≡ pasted old at (day_text l.ordinal n) → b ≡ pasted a t (clock_text x) → c ≡ pasted b u (fraction_text l.digits f) → e ≡ pasted c v (zone_text l.zone) → Wrote (roomed old at code) at old e (Ok w)
+    unfolding code_text
+    put_parts r {e = e} {w = w} h i j k p q o s =
+        let m = leb-true (at + width l) (length old) r in
+        let y = code_width l n x f few in
+        let z = parts_length few in
+        fills code _ at w old e (room_in code at old (omega arith)) (omega arith)
+        (put_four old (day_text l.ordinal n) (clock_text x) (fraction_text l.digits f) (zone_text l.zone) at h i j (omega arith) p q o s)
+
+pub some_ticks : (d : ℕ) → d ≤ 12 → 0 < per_second / 10 ^ d
+some_ticks d h = (grain d h).some
+
+-- a text copied over the part that it fills
+pub copied : (out text new : List ℕ) (at k : ℕ) → new ≡ text → k ≡ length text → put_mid at k out new ≡ pasted out at text
+unfolding pasted
+copied out text new at k e f = rw (e, f, drop-drop (length text) at out) (simp append_assoc)
+
+-- every index has its date
+pub ordinal_ok : (n : ℕ) (r : Result Ordinal Refusal) → n ≤ 3652058 → said r ≡ ordinal_at n → r ≡ Ok (ordinal_on n)
+ordinal_ok n r h e = said_done r _ (e ∙ ordinal_at_done n h)
+
+pub date_ok : (n : ℕ) (r : Result Date Refusal) → n ≤ 3652058 → said r ≡ date_at n → r ≡ Ok (date_in (ordinal_on n))
+date_ok n r h e = said_done r _ (e ∙ date_at_done n h)
+
+pub ordinal_is : (n : ℕ) (r : Result Ordinal Refusal) (o : Ordinal) → n ≤ 3652058 → said r ≡ ordinal_at n → r ≡ Ok o → ordinal_on n ≡ o
+ordinal_is n r o h e f = done_is _ o (sym (ordinal_at_done n h) ∙ sym e ∙ ap said f)
+
+pub date_is : (n : ℕ) (r : Result Date Refusal) (t : Date) → n ≤ 3652058 → said r ≡ date_at n → r ≡ Ok t → date_in (ordinal_on n) ≡ t
+date_is n r t h e f = done_is _ t (sym (date_at_done n h) ∙ sym e ∙ ap said f)

@@ -8,10 +8,6 @@ ghost use Rattle.octets.specs.Places.{digits};
 ghost use Rattle.octets.specs.Stores.{pasted};
 ghost use Rattle.octets.specs.Writes.{roomed, Wrote};
 ghost use Rattle.ascii.specs.Ascii.{
-  front_of,
-  part_size,
-  bit,
-  width,
   lead,
   day_text,
   clock_text,
@@ -24,189 +20,193 @@ ghost use Rattle.ascii.specs.Ascii.{
 
 use ascii::Layout;
 use base::Refusal;
-use calendar::{DateAnswer, IndexAnswer, OrdinalAnswer};
 use moment::Moment;
-use octets::Written;
 use scale::Record;
 
 // Writes a code from `at` on: the bytes before and after it stay, and a refusal leaves all.
-pub fn write(m: Moment, l: Layout, out: &mut [u8], at: usize) -> Written
+#[tactic(auto, using(moment::proofs::Laws::moment_parts, ascii::proofs::Ladder::index_high), unfolding(ascii::specs::Ascii::bytes_of))]
+pub fn write(m: Moment, l: Layout, out: &mut [u8], at: usize) -> Result<usize, Refusal>
     ensures { Wrote (and_then (bytes_of l m) (roomed out.old at)) at out.old out.new result }
 {
     if !ascii::is_layout(l) {
-        return Written::Refused(Refusal::Unsupported);
+        return Err(Refusal::Unsupported);
     }
     if !m.valid() {
-        return Written::Refused(Refusal::Range);
+        return Err(Refusal::Range);
     }
-    let answer = calendar::index_of_day(m.day);
-    match answer {
-        IndexAnswer::Refused(why) => Written::Refused(why),
-        IndexAnswer::Done(index) => {
-            let part = part_of(l.digits, m.ticks);
-            store(out, at, l, index, m.second, part)
-        }
-    }
+    let index = calendar::index_of_day(m.day)?;
+    store(out, at, l, index, m.second, part_of(l.digits, m.ticks))
 }
 
-// The fraction of a second that d digits show.
-fn part_of(d: usize, ticks: u64) -> u64
-    requires { (d ≤ 12) × (ticks < per_second) }
-    ensures { result ≡ part_of d ticks }
+// The fraction of a second that so many digits show.
+#[tactic(auto, using(crate::proofs::Puts::some_ticks))]
+fn part_of(digits: usize, ticks: u64) -> u64
+    requires { (digits ≤ 12) × (ticks < per_second) }
+    ensures { result ≡ part_of digits ticks }
 {
-    if d == 3 {
+    if digits == 3 {
         // by constants, and in two steps, or the compiler joins it with the division below
         let millionths = (ticks / (Record::TICKS / 1_000_000)) as u32;
-        return (millionths / 1000) as u64;
+        u64::from(millionths / 1000)
+    } else {
+        ticks / moment::decimal_unit(digits)
     }
-    ticks / moment::decimal_unit(d)
 }
 
-// Stores a code where there is room.
-fn store(out: &mut [u8], at: usize, l: Layout, day: u64, second: u64, part: u64) -> Written
+// Stores a code where there is room: the date, the clock, the fraction and Z. The bound on a day stays a `requires` of the
+// functions for its text: a type with it would be the calendar's private one over again.
+fn store(
+    out: &mut [u8],
+    at: usize,
+    l: Layout,
+    day: u64,
+    second: u64,
+    part: u64,
+) -> Result<usize, Refusal>
     requires { (day ≤ 3652058) × (second ≤ 86400) × (l.digits ≤ 12) }
     ensures { Wrote (roomed out.old at (code_text l day second part)) at out.old out.new result }
 {
-    let n = ascii::size(l);
-    let len = out.len();
-    if len < at {
-        return Written::Refused(Refusal::Room);
+    if !octets::fits(out.len(), at, ascii::size(l)) {
+        return Err(Refusal::Room);
     }
-    if len - at < n {
-        return Written::Refused(Refusal::Room);
-    }
-    put_code(out, at, l, day, second, part);
-    Written::Done(at + n)
+    let mut code = Writer { out, at };
+    code.put_day(l.ordinal, day);
+    code.put(&clock_text(second));
+    code.put_fraction(l.digits, part);
+    code.put_zone(l.zone);
+    Ok(code.at)
 }
 
-// Puts a code: the date, the clock, the fraction and Z.
-fn put_code(out: &mut [u8], at: usize, l: Layout, day: u64, second: u64, part: u64)
-    requires { (day ≤ 3652058) × (second ≤ 86400) × (l.digits ≤ 12) × (at + width l ≤ length out.old) }
-    ensures { out.new ≡ pasted out.old at (code_text l day second part) }
-{
-    let t = put_day(out, at, l.ordinal, day);
-    put_clock(out, t, second);
-    let end = put_fraction(out, t + 9, l.digits, part);
-    put_zone(out, end, l.zone);
+// Lent bytes, and where the next text goes.
+#[derive(Drop)]
+struct Writer<'a> {
+    out: &'a mut [u8],
+    at: usize,
 }
 
-// Puts the date of a day, and says where it ends.
-fn put_day(out: &mut [u8], at: usize, ordinal: bool, day: u64) -> usize
-    requires { (day ≤ 3652058) × (at + front_of ordinal ≤ length out.old + 9) }
-    ensures { (result + 9 ≡ at + front_of ordinal) × (out.new ≡ pasted out.old at (day_text ordinal day)) }
-{
-    if ordinal {
-        put_ordinal(out, at, day);
-        return at + 8;
+impl Writer<'_> {
+    #[tactic(auto, using(crate::proofs::Puts::copied))]
+    fn put(&mut self, text: &[u8])
+        requires { self.old.at + length text.now ≤ length self.old.out.now }
+        ensures ends { self.new.at ≡ self.old.at + length text.now }
+        ensures puts { self.new.out.now ≡ pasted self.old.out.now self.old.at text.now }
+        ensures same { self.new.out.ghost_name ≡ self.old.out.ghost_name }
+    {
+        let end = self.at + text.len();
+        self.out[self.at..end].copy_from_slice(text);
+        self.at = end;
     }
-    put_date(out, at, day);
-    at + 10
-}
 
-// Puts YYYY-DDD.
-fn put_ordinal(out: &mut [u8], at: usize, day: u64)
-    requires { (day ≤ 3652058) × (at + 8 ≤ length out.old) }
-    ensures { out.new ≡ pasted out.old at (day_text true day) }
-{
-    let answer = calendar::ordinal_at(day);
-    match answer {
-        OrdinalAnswer::Refused(_) => {}
-        OrdinalAnswer::Done(o) => {
-            put_year(out, at, o.year);
-            put_lead(out, at + 4, b'-', 3, o.day);
+    // The date of a day.
+    fn put_day(&mut self, ordinal: bool, day: u64)
+        requires { (day ≤ 3652058) × (self.old.at + length (day_text ordinal day) ≤ length self.old.out.now) }
+        ensures ends { self.new.at ≡ self.old.at + length (day_text ordinal day) }
+        ensures puts { self.new.out.now ≡ pasted self.old.out.now self.old.at (day_text ordinal day) }
+        ensures same { self.new.out.ghost_name ≡ self.old.out.ghost_name }
+    {
+        if ordinal {
+            self.put(&ordinal_text(day));
+        } else {
+            self.put(&date_text(day));
+        }
+    }
+
+    // A fraction of so many digits with its period.
+    #[tactic(auto, using(crate::proofs::Puts::fractions))]
+    fn put_fraction(&mut self, digits: usize, part: u64)
+        requires { self.old.at + length (fraction_text digits part) ≤ length self.old.out.now }
+        ensures ends { self.new.at ≡ self.old.at + length (fraction_text digits part) }
+        ensures puts { self.new.out.now ≡ pasted self.old.out.now self.old.at (fraction_text digits part) }
+        ensures same { self.new.out.ghost_name ≡ self.old.out.ghost_name }
+    {
+        match digits {
+            0 => {}
+            // by a width that the compiler knows
+            3 => self.put_lead(3, part),
+            _ => self.put_lead(digits, part),
+        }
+    }
+
+    // A period and digits.
+    fn put_lead(&mut self, digits: usize, part: u64)
+        requires { self.old.at + 1 + digits ≤ length self.old.out.now }
+        ensures ends { self.new.at ≡ self.old.at + 1 + digits }
+        ensures puts { self.new.out.now ≡ pasted self.old.out.now self.old.at (lead 46 digits part) }
+        ensures same { self.new.out.ghost_name ≡ self.old.out.ghost_name }
+    {
+        self.out[self.at] = b'.';
+        octets::put_decimal(self.out, self.at + 1, digits, part);
+        self.at += 1 + digits;
+    }
+
+    // Z where the layout has it.
+    #[tactic(auto, using(crate::proofs::Puts::no_zone))]
+    fn put_zone(&mut self, zone: bool)
+        requires { self.old.at + length (zone_text zone) ≤ length self.old.out.now }
+        ensures ends { self.new.at ≡ self.old.at + length (zone_text zone) }
+        ensures puts { self.new.out.now ≡ pasted self.old.out.now self.old.at (zone_text zone) }
+        ensures same { self.new.out.ghost_name ≡ self.old.out.ghost_name }
+    {
+        if zone {
+            self.put(b"Z");
         }
     }
 }
 
-// Puts YYYY-MM-DD.
-fn put_date(out: &mut [u8], at: usize, day: u64)
-    requires { (day ≤ 3652058) × (at + 10 ≤ length out.old) }
-    ensures { out.new ≡ pasted out.old at (day_text false day) }
+// YYYY-DDD.
+#[tactic(auto, using(crate::proofs::Puts::ordinal_ok, calendar::proofs::Promises::ordinal_fields_lem))]
+fn ordinal_text(day: u64) -> [u8; 8]
+    requires { day ≤ 3652058 }
+    ensures { result ≡ day_text true day }
 {
-    let answer = calendar::date_at(day);
-    match answer {
-        DateAnswer::Refused(_) => {}
-        DateAnswer::Done(d) => {
-            put_year(out, at, d.year);
-            put_pair(out, at + 4, b'-', d.month);
-            put_pair(out, at + 7, b'-', d.day);
-        }
-    }
+    let o = calendar::ordinal_at(day).unwrap();
+    let [a, b, c, d] = four_digits(o.year);
+    let [e, f] = two_digits(o.day % 100);
+    [a, b, c, d, b'-', b'0' + (o.day / 100) as u8, e, f]
 }
 
-// Puts T and the clock of a second of the day.
-fn put_clock(out: &mut [u8], at: usize, second: u64)
-    requires { (second ≤ 86400) × (at + 9 ≤ length out.old) }
-    ensures { out.new ≡ pasted out.old at (clock_text second) }
+// YYYY-MM-DD.
+#[tactic(auto, using(crate::proofs::Puts::date_ok, calendar::proofs::Promises::date_fields_lem))]
+fn date_text(day: u64) -> [u8; 10]
+    requires { day ≤ 3652058 }
+    ensures { result ≡ day_text false day }
 {
-    let m = clock::minute_of(second);
-    let sec = second - m * 60;
-    put_pair(out, at, b'T', m / 60);
-    put_pair(out, at + 3, b':', m % 60);
-    put_pair(out, at + 6, b':', sec);
+    let t = calendar::date_at(day).unwrap();
+    let [a, b, c, d] = four_digits(t.year);
+    let [e, f] = two_digits(t.month);
+    let [g, h] = two_digits(t.day);
+    [a, b, c, d, b'-', e, f, b'-', g, h]
 }
 
-// Puts a fraction of d digits with its period, and says where it ends.
-fn put_fraction(out: &mut [u8], at: usize, d: usize, part: u64) -> usize
-    requires { (d ≤ 12) × (at + part_size d ≤ length out.old) }
-    ensures { (result ≡ at + part_size d) × (out.new ≡ pasted out.old at (fraction_text d part)) }
+// T and the clock of a second of the day.
+#[tactic(auto, unfolding(ascii::specs::Ascii::clock_text))]
+fn clock_text(second: u64) -> [u8; 9]
+    requires { second ≤ 86400 }
+    ensures { result ≡ clock_text second }
 {
-    if d == 0 {
-        return at;
-    }
-    if d == 3 {
-        // the same by a width that the compiler knows
-        put_lead(out, at, b'.', 3, part);
-        return at + 4;
-    }
-    put_lead(out, at, b'.', d, part);
-    at + (d + 1)
+    let minute = clock::minute_of(second);
+    let [a, b] = two_digits(minute / 60);
+    let [c, d] = two_digits(minute % 60);
+    let [e, f] = two_digits(second - minute * 60);
+    [b'T', a, b, b':', c, d, b':', e, f]
 }
 
-// Puts Z where the layout has it.
-fn put_zone(out: &mut [u8], at: usize, zone: bool)
-    requires { at + bit zone ≤ length out.old }
-    ensures { out.new ≡ pasted out.old at (zone_text zone) }
+// The four digits of n.
+#[tactic(auto, using(crate::proofs::Puts::four))]
+fn four_digits(n: u64) -> [u8; 4]
+    requires { n < 10000 }
+    ensures { result ≡ digits 4 n }
 {
-    if zone {
-        out[at] = b'Z';
-    }
+    let [a, b] = two_digits(n / 100);
+    let [c, d] = two_digits(n % 100);
+    [a, b, c, d]
 }
 
-// Puts the four digits of a year.
-fn put_year(out: &mut [u8], at: usize, year: u64)
-    requires { (year ≤ 9999) × (at + 4 ≤ length out.old) }
-    ensures { out.new ≡ pasted out.old at (digits 4 year) }
-{
-    let hundreds = year / 100;
-    put_two_digits(out, at, hundreds);
-    put_two_digits(out, at + 2, year - hundreds * 100);
-}
-
-// Puts a character and the two digits of n.
-fn put_pair(out: &mut [u8], at: usize, c: u8, n: u64)
-    requires { (n < 100) × (at + 3 ≤ length out.old) }
-    ensures { out.new ≡ pasted out.old at (lead c 2 n) }
-{
-    out[at] = c;
-    put_two_digits(out, at + 1, n);
-}
-
-// Puts the two digits of n.
-fn put_two_digits(out: &mut [u8], at: usize, n: u64)
-    requires { (n < 100) × (at + 2 ≤ length out.old) }
-    ensures { out.new ≡ pasted out.old at (digits 2 n) }
+// The two digits of n.
+fn two_digits(n: u64) -> [u8; 2]
+    requires { n < 100 }
+    ensures { result ≡ digits 2 n }
 {
     let two = n as u8;
-    out[at] = b'0' + two / 10;
-    out[at + 1] = b'0' + two % 10;
-}
-
-// Puts a character and the last w digits of n.
-fn put_lead(out: &mut [u8], at: usize, c: u8, w: usize, n: u64)
-    requires { at + 1 + w ≤ length out.old }
-    ensures { out.new ≡ pasted out.old at (lead c w n) }
-{
-    out[at] = c;
-    octets::put_decimal(out, at + 1, w, n);
+    [b'0' + two / 10, b'0' + two % 10]
 }

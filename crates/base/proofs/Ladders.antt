@@ -53,3 +53,9 @@ need_refused false n m x h = inl (refl, refused_is n m h)
 pub then_refused : {A B : Type 0} (x : Outcome A) (k : A → Outcome B) (m : ℕ) → and_then x k ≡ refused m → (x ≡ refused m) ⊎ ((a : A) × ((x ≡ done a) × (k a ≡ refused m)))
 then_refused (done a) k m h = inr (a, (refl, h))
 then_refused (refused n) k m h = inl (ap refused (refused_is n m h))
+
+-- two rungs that refuse one value refuse any other
+pub unsettled : {A B : Type 0} (a b : Bool) (m k : ℕ) (v : A) (x : Outcome B) (n : ℕ) → refused n ≡ need a m (need b k (done v)) → refused n ≡ need a m (need b k x)
+unsettled true true m k v x n h = never n v h
+unsettled true false m k v x n h = cc
+unsettled false b m k v x n h = cc

@@ -3,3 +3,4 @@ pub mod Signed
 pub mod Steps
 pub mod Ladders
 pub mod Once
+pub mod Passed

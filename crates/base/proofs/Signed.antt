@@ -15,7 +15,7 @@ use borrow.Author.Tests.{lt-ltb, le-ltb, le-leb, lt-leb, ltb-true, ltb-false, le
 use Rattle.base.specs.Parts.{plus, minus, within, At, lowered_by, bits_of, signed_of, floor, rest}
 use Rattle.base.proofs.Bools.{and_left, and_right, and_false, cond_yes, cond_no, by_two}
 use Rattle.base.specs.Seats.{seat_of}
-use Rattle.base.specs.declared.Seat.TheVariants.{In, Out}
+use Rattle.std.specs.Prelude.{Some, None}
 
 -- one of the two parts is 0
 pub apart : (z : ℤ) → min (plus z) (minus z) ≡ 0
@@ -172,23 +172,7 @@ at_same B n y z e f = same y z (omega arith)
 pub at_once : (B m n : ℕ) (z : ℤ) → At B m z → At B n z → m ≡ n
 at_once B m n z e f = omega arith
 
--- raised by 2^63, then by as much again or lowered, they are the bits without a sign
-pub bits_below : (n : ℕ) (z : ℤ) → At (2 ^ 63) n z → n < 2 ^ 63 → n + 2 ^ 63 ≡ bits_of z
-bits_below n (pos m) e h = absurd (omega arith)
-bits_below n (negsuc m) e h = omega arith
-
-pub bits_above : (n : ℕ) (z : ℤ) → At (2 ^ 63) n z → 2 ^ 63 ≤ n → n - 2 ^ 63 ≡ bits_of z
-bits_above n (pos m) e h = omega arith
-bits_above n (negsuc m) e h = absurd (omega arith)
-
--- and back: what is lowered by 2^63, raised by as much before or lowered once more
-pub signed_below : (n : ℕ) (z : ℤ) → At (2 ^ 63) (n + 2 ^ 63) z → n < 2 ^ 63 → z ≡ signed_of n
-signed_below n z e h = at_same (2 ^ 63) (n + 2 ^ 63) z (pos n) e (omega arith) ∙ sym (cond_yes _ _ (lt-ltb n (2 ^ 63) h))
-
-pub signed_above : (n : ℕ) (z : ℤ) → At (2 ^ 63) (n - 2 ^ 63) z → 2 ^ 63 ≤ n → z ≡ signed_of n
-signed_above n z e h = at_same (2 ^ 63) (n - 2 ^ 63) z (sub_ℕ n (2 ^ 64)) e (omega (arith, less n (2 ^ 64))) ∙ sym (cond_no _ _ (le-ltb n (2 ^ 63) h))
-
--- the two are inverse
+-- the bits without a sign, and back
 pub signed_bits : (z : ℤ) → plus z < 2 ^ 63 → minus z ≤ 2 ^ 63 → signed_of (bits_of z) ≡ z
 signed_bits (pos n) p m = cond_yes _ _ (lt-ltb n (2 ^ 63) p)
 signed_bits (negsuc n) p m = cond_no _ _ (le-ltb (2 ^ 64 - suc n) (2 ^ 63) (omega arith)) ∙ same (sub_ℕ (2 ^ 64 - suc n) (2 ^ 64)) (negsuc n) (omega (arith, less (2 ^ 64 - suc n) (2 ^ 64)))
@@ -251,11 +235,11 @@ pub record Seated (lo hi z : ℤ) (n : ℕ) : Type 0 where
   pub high : plus z + minus hi ≤ plus hi + minus z
   pub place : n + (plus lo + minus z) ≡ plus z + minus lo
 
-pub seat_in_lem : (lo hi z : ℤ) (n : ℕ) → seat_of lo hi z ≡ In n → Seated lo hi z n
+pub seat_in_lem : (lo hi z : ℤ) (n : ℕ) → seat_of lo hi z ≡ Some n → Seated lo hi z n
 unfolding seat_of
 seat_in_lem lo hi z n e = go (within lo hi z) refl e
   where
-    go : (b : Bool) → within lo hi z ≡ b → cond b (In (nat_abs (z -ℤ lo))) Out ≡ In n → Seated lo hi z n
+    go : (b : Bool) → within lo hi z ≡ b → cond b (Some (nat_abs (z -ℤ lo))) None ≡ Some n → Seated lo hi z n
     go true f e =
         let m : nat_abs (z -ℤ lo) ≡ n = cc in
         record {
@@ -266,10 +250,10 @@ seat_in_lem lo hi z n e = go (within lo hi z) refl e
         }
     go false f e = let a : ◌≡◌ {A = ℕ} 0 1 = cc in absurd (omega arith)
 
-pub seat_out : (lo hi z : ℤ) → seat_of lo hi z ≡ Out → within lo hi z ≡ false
+pub seat_out : (lo hi z : ℤ) → seat_of lo hi z ≡ None → within lo hi z ≡ false
 unfolding seat_of
 seat_out lo hi z e = go (within lo hi z) refl e
   where
-    go : (b : Bool) → within lo hi z ≡ b → cond b (In (nat_abs (z -ℤ lo))) Out ≡ Out → within lo hi z ≡ false
+    go : (b : Bool) → within lo hi z ≡ b → cond b (Some (nat_abs (z -ℤ lo))) None ≡ None → within lo hi z ≡ false
     go true f e = let a : ◌≡◌ {A = ℕ} 0 1 = cc in absurd (omega arith)
     go false f e = f

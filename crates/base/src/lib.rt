@@ -6,20 +6,20 @@ ghost use Rattle.base.specs.Refusals.{number};
 ghost use Rattle.base.specs.Parts.{At, within, bits_of, signed_of};
 ghost use Rattle.base.specs.Seats.{seat_of};
 
-// Why a call is refused, in the order of the numbers: 1 to 9 of document 01, 10 and 11 of document 02.
-#[derive(Clone, Copy)]
+// Why a call is refused, each with its number: 1 to 9 of document 01, 10 and 11 of document 02.
+#[derive(Clone, Copy, Debug, PartialEq, Eq)]
 pub enum Refusal {
-    Short,
-    Identification,
-    Unsupported,
-    Field,
-    Uncovered,
-    NoSuchSecond,
-    Range,
-    Room,
-    Window,
-    NotElapsed,
-    OffGrid,
+    Short = 1,
+    Identification = 2,
+    Unsupported = 3,
+    Field = 4,
+    Uncovered = 5,
+    NoSuchSecond = 6,
+    Range = 7,
+    Room = 8,
+    Window = 9,
+    NotElapsed = 10,
+    OffGrid = 11,
 }
 
 impl Refusal {
@@ -27,96 +27,58 @@ impl Refusal {
     pub fn number(self) -> u8
         ensures { result ≡ number self }
     {
-        match self {
-            Refusal::Short => 1,
-            Refusal::Identification => 2,
-            Refusal::Unsupported => 3,
-            Refusal::Field => 4,
-            Refusal::Uncovered => 5,
-            Refusal::NoSuchSecond => 6,
-            Refusal::Range => 7,
-            Refusal::Room => 8,
-            Refusal::Window => 9,
-            Refusal::NotElapsed => 10,
-            Refusal::OffGrid => 11,
-        }
+        self as u8
     }
 }
 
 // 2^63 less 2^41: how far a raised second is raised beyond one that is counted from the first second of a record.
-pub const RECORD_BIAS: u64 = 9223369837831520256;
+pub const RECORD_BIAS: u64 = (1 << 63) - (1 << 41);
 
-// z + 2^63. All arithmetic on signed numbers is done on these.
+// 2^63: where raised numbers have 0.
+const RAISED_ZERO: u64 = 1 << 63;
+
+// z + 2^63, in the order of the signed numbers.
 pub fn raised(z: i64) -> u64
     ensures { At (2 ^ 63) result z }
 {
-    if z < 0 {
-        let below = (-1 - z) as u64;
-        9223372036854775807 - below
-    } else {
-        z as u64 + 9223372036854775808
-    }
+    unsigned(z).wrapping_add(RAISED_ZERO)
 }
 
 // n - 2^63
 pub fn lowered(n: u64) -> i64
     ensures { At (2 ^ 63) n result }
 {
-    if n < 9223372036854775808 {
-        let below = (9223372036854775807 - n) as i64;
-        -1 - below
-    } else {
-        (n - 9223372036854775808) as i64
-    }
+    of_bits(n.wrapping_sub(RAISED_ZERO))
 }
-
-// 2^63: where raised numbers have 0.
-const RAISED_ZERO: u64 = 9223372036854775808;
 
 // The bits of a signed number, read without a sign.
 pub fn unsigned(z: i64) -> u64
     ensures { result ≡ bits_of z }
 {
-    let n = raised(z);
-    if n < RAISED_ZERO {
-        n + RAISED_ZERO
-    } else {
-        n - RAISED_ZERO
-    }
+    z.cast_unsigned()
 }
 
 // The signed number of which these are the bits.
 pub fn of_bits(n: u64) -> i64
     ensures { result ≡ signed_of n }
 {
-    if n < RAISED_ZERO {
-        lowered(n + RAISED_ZERO)
-    } else {
-        lowered(n - RAISED_ZERO)
-    }
+    n.cast_signed()
 }
 
 // lo <= z <= hi
 pub fn between(lo: i64, hi: i64, z: i64) -> bool
     ensures { result ≡ within lo hi z }
 {
-    lo <= z && z <= hi
+    (lo..=hi).contains(&z)
 }
 
 // A number's place in a range, counted from the range's start.
-#[derive(Clone, Copy)]
-pub enum Seat {
-    In(u64),
-    Out,
-}
-
-pub fn seated(lo: i64, hi: i64, z: i64) -> Seat
+pub fn seated(lo: i64, hi: i64, z: i64) -> Option<u64>
     ensures { result ≡ seat_of lo hi z }
 {
     if between(lo, hi, z) {
-        let n = raised(z) - raised(lo);
-        Seat::In(n)
+        Some(z.abs_diff(lo))
     } else {
-        Seat::Out
+        None
     }
 }

@@ -1,16 +1,19 @@
 -- Laws of dates and of days of a year: what their tests say, and that each is inverse to the index.
-use Prim.Native.Nat.{ℕ, ◌+◌, ◌-◌, ◌*◌, ◌≤◌, ◌<◌}
+use Prim.Native.Nat.{ℕ, ◌+◌, ◌-◌, ◌*◌, ◌/◌, ◌≤◌, ◌<◌}
 use mathlib.Core.Path.{◌≡◌, refl, sym, ap, ◌∙◌}
 use mathlib.Core.Bool.{Bool, true, false, cond, ◌&&◌}
 use native.Mathlib.Omega.{arith}
-use lib.Dec.{leb}
+use lib.Dec.{leb, ltb}
+use mir.Syntax.{w64}
+use mir.Val.{Fits, bool_byte}
+use mathlib.Core.List.{List}
 use lib.ListN.{get_or}
 use borrow.Author.Tests.{le-leb, leb-true, leb-false}
 use Rattle.base.proofs.Bools.{and_left, and_right}
 use Rattle.calendar.specs.declared.Ordinal.{Ordinal}
 use Rattle.calendar.specs.Gregorian.{kind, year_length, year_start, years_to, row, up_to, months_to, month_length, is_date, is_ordinal, day_index, day_of_year, ordinal_on, ymd, date_in}
 use Rattle.calendar.proofs.Years.{Holds, kind_lt, next_start, year_end, start_mono, years_hold, years_unique}
-use Rattle.calendar.proofs.Rows.{months_is, row_length, row_next, row_le, row_found, Found, Parted}
+use Rattle.calendar.proofs.Rows.{months_is, row_length, row_next, row_le, row_found, Found, Parted, month_begun, parted}
 
 -- ---- what the tests say
 pub record GoodOrdinal (y d : ℕ) : Type 0 where
@@ -134,14 +137,20 @@ date_at_day y i d h p l =
     let e : up_to (row (kind y)) i + d - up_to (row (kind y)) i ≡ d = omega arith in
     simp (months_is (row (kind y)) i d (rw (row_length (kind y) (kind_lt y)) h) p l, e)
 
--- as the code has it: what the m months of s days and the p months of n days leave of the day
-pub date_parted : (o : Ordinal) (k m s n p : ℕ) → k ≡ kind o.year → Parted k o.day m s n p → ymd o.year (m + 1 + p) (o.day - s - n * p) ≡ date_in o
-date_parted o k m s n p e g =
-    let d = o.day - s - n * p in
+-- as the code has it: what the months before leave of the day
+pub date_parted : (o : Ordinal) (m p : ℕ) → Parted (kind o.year) o.day m p → ymd o.year (m + 1 + p) (o.day - up_to (row (kind o.year)) m - get_or (row (kind o.year)) m 0 * p) ≡ date_in o
+date_parted o m p g =
+    let ls = row (kind o.year) in
+    let d = o.day - up_to ls m - get_or ls m 0 * p in
     let f : m + 1 + p ≡ m + p + 1 = omega arith in
-    let h : d ≤ get_or (row k) (m + p) 0 = omega arith in
-    let q : up_to (row k) (m + p) + d ≡ o.day = omega arith in
-    rw f (sym (date_at_day o.year (m + p) d g.inside (omega arith) (rw e at h)) ∙ ap (λ (x : ℕ). date_in (record { year = o.year; day = x })) (rw e at q))
+    let q : up_to ls (m + p) + d ≡ o.day = omega (arith, g.days, g.low) in
+    rw f (sym (date_at_day o.year (m + p) d g.inside (omega (arith, g.low)) (omega (arith, g.high))) ∙ ap (λ (x : ℕ). date_in (record { year = o.year; day = x })) q)
+
+pub begun : (y d : ℕ) → is_ordinal y d ≡ true → ((d - 1) / 32 < 12) × (up_to (row (kind y)) ((d - 1) / 32) < d)
+begun y d e = let g = good_ordinal y d e in month_begun (kind y) (kind_lt y) d g.day_low g.day_high
+
+pub dated : (o : Ordinal) → is_ordinal o.year o.day ≡ true → let ls = row (kind o.year) in let m = (o.day - 1) / 32 in let p = bool_byte (ltb (get_or ls m 0) (o.day - up_to ls m)) in ymd o.year (m + 1 + p) (o.day - up_to ls m - get_or ls m 0 * p) ≡ date_in o
+dated o e = let g = good_ordinal _ _ e in date_parted o _ _ (parted _ (kind_lt _) _ g.day_low g.day_high _ refl)
 
 pub date_of_date : (y m d : ℕ) → GoodDate y m d → date_in (record { year = y; day = day_of_year y m d }) ≡ ymd y m d
 date_of_date y m d g =
@@ -157,6 +166,13 @@ ordinal_of_date y m d g =
       day_low = omega arith;
       day_high = omega (arith, row_next (kind y) s (m - 1) (omega arith), row_le (kind y) s (m - 1 + 1) (omega arith));
     }
+
+-- as the code has it: p days passed before the month
+pub date_passed : (y m d p : ℕ) (ls : List ℕ) → is_date y m d ≡ true → p ≡ up_to ls (m - 1) → ls ≡ row (kind y) → is_ordinal y (p + d) ≡ true
+date_passed y m d p ls e f h = rw (f, h) (is_ordinal_lem _ _ (ordinal_of_date y m d (good_date y m d e)))
+
+pub passed_fits : (y m d p : ℕ) (ls : List ℕ) → is_date y m d ≡ true → p ≡ up_to ls (m - 1) → ls ≡ row (kind y) → Fits w64 (p + d)
+passed_fits y m d p ls e f h = record { fits = omega (arith, (good_ordinal _ _ (date_passed y m d p ls e f h)).day_high, kind_lt y) }
 
 module _ (o : Ordinal) (g : GoodOrdinal o.year o.day) where
   place : Found (row (kind o.year)) o.day (months_to (row (kind o.year)) o.day)

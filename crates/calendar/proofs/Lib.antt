@@ -4,4 +4,3 @@ pub mod Dates
 pub mod Numbers
 pub mod Order
 pub mod Promises
-pub mod Once

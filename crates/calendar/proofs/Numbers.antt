@@ -1,12 +1,17 @@
 -- The index with a day number and the day number with an index are inverse over all the days.
 use Prim.Native.Nat.{ℕ, ◌≤◌}
-use mathlib.Core.Path.{◌≡◌, sym, ap, ◌∙◌}
-use mathlib.Core.Bool.{false}
+use mathlib.Core.Path.{◌≡◌, refl, sym, ap, ◌∙◌}
+use mathlib.Core.Bool.{Bool, true, false, cond}
 use native.Mathlib.Omega.{arith}
 use lib.IntN.{ℤ, pos, negsuc, nat_abs, ◌+ℤ◌}
-use Rattle.base.specs.Outcome.{Outcome, done, refused, and_then, given}
+use Rattle.std.specs.Prelude.{Some, None}
+use Rattle.std.specs.Option.{ok_or}
+use Rattle.base.specs.declared.Refusal.TheVariants.{Range}
+use Rattle.base.specs.Outcome.{Outcome, done, need, and_then, given}
+use Rattle.base.specs.Said.{said}
+use Rattle.base.specs.Seats.{seat_of}
 use Rattle.base.specs.Parts.{At, within}
-use Rattle.base.proofs.Ladders.{need_yes, need_no, need_done, then_done, given_done, done_is}
+use Rattle.base.proofs.Ladders.{need_yes, need_done, then_done, given_done, done_is}
 use Rattle.base.proofs.Signed.{same, less, sum, apart, abs_is, within_low, within_yes}
 use Rattle.calendar.specs.Gregorian.{from_epoch, index_of_day}
 
@@ -19,9 +24,14 @@ index_at n z e h =
     need_yes 7 _ (within_yes (negsuc 714778) (pos 2937279) z (omega arith) (omega arith))
     ∙ ap done (rw abs_is (omega (arith, sum z (pos 714779), apart (z +ℤ pos 714779))))
 
-pub index_out : (z : ℤ) → within (negsuc 714778) (pos 2937279) z ≡ false → index_of_day z ≡ refused 7
-unfolding index_of_day
-index_out z e = need_no 7 _ e
+-- as the code has it
+pub seat_said : (z : ℤ) → said (ok_or (seat_of (negsuc 714778) (pos 2937279) z) Range) ≡ index_of_day z
+unfolding seat_of index_of_day
+seat_said z = go (within (negsuc 714778) (pos 2937279) z)
+  where
+    go : (b : Bool) → said (ok_or (cond b (Some (nat_abs (z +ℤ pos 714779))) None) Range) ≡ need b 7 (done (nat_abs (z +ℤ pos 714779)))
+    go true = refl
+    go false = refl
 
 pub index_of_number : (n : ℕ) → n ≤ 3652058 → index_of_day (from_epoch n) ≡ done n
 index_of_number n h = index_at n (from_epoch n) (number_at_lem n) h

@@ -58,6 +58,9 @@ ordinal_at_back n o h =
     let i : ordinal_on n ≡ o = done_is (ordinal_on n) o f in
     rw (← i) (need_yes 4 _ (is_ordinal_lem _ _ (good_on n (leb-true n 3652058 e))) ∙ ap done (index_on_ordinal n))
 
+pub good_at : (n : ℕ) (o : Ordinal) → ordinal_at n ≡ done o → is_ordinal o.year o.day ≡ true
+good_at n o h = is_ordinal_lem _ _ (ordinal_told _ _ _ (ordinal_at_back n o h)).0
+
 -- a date has the index of its day of the year
 by_ordinal_lem : (y m d : ℕ) → GoodDate y m d → index_of_date y m d ≡ index_of_ordinal y (day_of_year y m d)
 unfolding index_of_ordinal

@@ -4,7 +4,7 @@ use mathlib.Core.Path.{◌≡◌, refl, ap}
 use mathlib.Core.Bool.{Bool, true, false, cond, ◌&&◌}
 use mathlib.Core.List.{List, [], ◌∷◌}
 use native.Mathlib.Nat.{add-zero, le_of_suc-le-suc, not-suc-le-zero}
-use native.Mathlib.Numerals.{add-one}
+use native.Mathlib.Numerals.{add-one, unary_clauses}
 use native.Mathlib.Omega.{arith}
 use lib.Dec.{leb, ltb}
 use lib.ListN.{length, get_or}
@@ -29,6 +29,36 @@ up ls i = rw add-one (up_suc ls i)
 
 pub up_to_mono : (ls : List ℕ) (i j : ℕ) → i ≤ j → up_to ls i ≤ up_to ls j
 up_to_mono ls = mono (up_to ls) (up ls)
+
+-- a turn of the sum of the first m lengths over all: the one at i is added if it is one of them
+abbrev Turn : List ℕ → ℕ → ℕ → ℕ → Type 0
+Turn ls m i n = (up_to ls (min (i + 1) m) ≡ up_to ls (min i m) + n) × (n ≤ get_or ls i 0)
+
+pub turn : (ls : List ℕ) (m i : ℕ) → i < length ls → Turn ls m i (get_or ls i 0 * bool_byte (ltb i m))
+turn ls m i h = go (ltb i m) refl
+  where
+    go : (t : Bool) → ltb i m ≡ t → Turn ls m i (get_or ls i 0 * bool_byte t)
+    go true e =
+        let u : i < m = ltb-true i m e in
+        let a : min (i + 1) m ≡ suc i = omega arith in
+        let b : min i m ≡ i = omega arith in
+        rw (a, b) (omega (arith, up_to_suc ls i h))
+    go false e =
+        let u : m ≤ i = ltb-false i m e in
+        let a : min (i + 1) m ≡ min i m = omega arith in
+        rw a (omega arith)
+
+up_to_none : (i : ℕ) → up_to [] i ≡ 0
+up_to_none zero = refl
+up_to_none (suc i) = refl
+
+-- no more are added than there are
+pub up_to_all : (ls : List ℕ) (i m : ℕ) → length ls ≤ i → up_to ls (min i m) ≡ up_to ls m
+up_to_all [] i zero h = simp unary_clauses
+up_to_all [] i (suc m) h = up_to_none (min i (suc m))
+up_to_all (l ∷ ls) zero m h = absurd (not-suc-le-zero h)
+up_to_all (l ∷ ls) (suc i) zero h = simp unary_clauses
+up_to_all (l ∷ ls) (suc i) (suc m) h = simp unary_clauses (ap (λ (n : ℕ). l + n) (up_to_all ls i m (le_of_suc-le-suc h)))
 
 -- ---- `months_to` is the place whose days hold the d-th, and no other
 pub months_is : (ls : List ℕ) (i d : ℕ) → i < length ls → 1 ≤ d → d ≤ get_or ls i 0 → months_to ls (up_to ls i + d) ≡ i
@@ -85,16 +115,12 @@ row_lengths : (k : ℕ) → k < 2 → every good_length (row k) ≡ true
 unfolding row
 row_lengths = of_two (λ k. every good_length (row k) ≡ true) refl refl
 
--- a turn of the sum of the first m months over all twelve: month i is added p times
-abbrev pub Turn : ℕ → ℕ → ℕ → ℕ → Type 0
-Turn k m i p = (up_to (row k) (min (i + 1) m) ≡ up_to (row k) (min i m) + get_or (row k) i 0 * p) × (up_to (row k) (min (i + 1) m) ≤ 365 + k)
-
--- day d of a year is in month m + p: before it lie m months, of s days, and p more, of n days each
-pub record Parted (k d m s n p : ℕ) : Type 0 where
+-- day d of a year is in month m + p, where p is 0 or 1
+pub record Parted (k d m p : ℕ) : Type 0 where
   pub inside : m + p < 12
-  pub low : s + n * p < d
-  pub high : d ≤ s + n * p + get_or (row k) (m + p) 0
-  pub days : up_to (row k) (m + p) ≡ s + n * p
+  pub days : up_to (row k) (m + p) ≡ up_to (row k) m + get_or (row k) m 0 * p
+  pub low : up_to (row k) (m + p) < d
+  pub high : d ≤ up_to (row k) (m + p) + get_or (row k) (m + p) 0
 
 module _ (k : ℕ) (h : k < 2) where
   pub row_next : (i : ℕ) → i < 12 → up_to (row k) (i + 1) ≡ up_to (row k) i + get_or (row k) i 0
@@ -112,18 +138,6 @@ module _ (k : ℕ) (h : k < 2) where
       let n = get_or (row k) i 0 in
       let e : good_length n ≡ true = every_at good_length (row k) (row_lengths k h) i (rw (row_length k h) l) in
       (leb-true 28 n (and_left (leb 28 n) (leb n 31) e), leb-true n 31 (and_right (leb 28 n) (leb n 31) e))
-
-  pub row_turn : (m i : ℕ) → i < 12 → (t : Bool) → ltb i m ≡ t → Turn k m i (bool_byte t)
-  row_turn m i l true e =
-      let u : i < m = ltb-true i m e in
-      let a : min (i + 1) m ≡ i + 1 = omega arith in
-      let b : min i m ≡ i = omega arith in
-      rw (a, b) (omega (arith, row_next i l, row_le (i + 1) (omega arith)))
-  row_turn m i l false e =
-      let u : m ≤ i = ltb-false i m e in
-      let a : min (i + 1) m ≡ m = omega arith in
-      let b : min i m ≡ m = omega arith in
-      rw (a, b) (omega (arith, row_le m (omega arith)))
 
   -- n months have at most 31 n days
   days_le : (i n : ℕ) → i + n ≤ 12 → up_to (row k) (i + n) ≤ up_to (row k) i + 31 * n
@@ -147,14 +161,15 @@ module _ (k : ℕ) (h : k < 2) where
     pub month_begun : (m < 12) × (up_to (row k) m < d)
     month_begun = (omega arith, omega (arith, around m (omega arith)))
 
-    pub parted : (s n : ℕ) → s ≡ up_to (row k) m → n ≡ get_or (row k) m 0 → (t : Bool) → ltb n (d - s) ≡ t → Parted k d m s n (bool_byte t)
-    parted s n a b false e =
+    pub parted : (t : Bool) → ltb (get_or (row k) m 0) (d - up_to (row k) m) ≡ t → Parted k d m (bool_byte t)
+    parted false e =
         let (i, u) = month_begun in
-        let l : d - s ≤ n = ltb-false n (d - s) e in
-        record { inside = omega arith; low = omega arith; high = rw (add-zero m) (omega arith); days = rw (add-zero m) (omega arith) }
-    parted s n a b true e =
+        let l = ltb-false _ _ e in
+        let f : m + bool_byte false ≡ m = omega arith in
+        record { inside = omega arith; days = rw f (omega arith); low = rw f u; high = rw f (omega arith) }
+    parted true e =
         let (i, u) = month_begun in
         let f = row_next m i in
-        let l : n < d - s = ltb-true n (d - s) e in
+        let l = ltb-true _ _ e in
         let j : m + 1 < 12 = omega (arith, around (m + 1) (omega arith)) in
-        record { inside = j; low = omega arith; high = omega (arith, row_next (m + 1) j, around (m + 1 + 1) (omega arith)); days = omega arith }
+        record { inside = j; days = omega arith; low = omega arith; high = omega (arith, row_next (m + 1) j, around (m + 1 + 1) (omega arith)) }

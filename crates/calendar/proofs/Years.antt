@@ -4,9 +4,10 @@ use mathlib.Core.Path.{◌≡◌, refl}
 use mathlib.Core.Bool.{Bool, true, false, cond}
 use native.Mathlib.Omega.{arith}
 use lib.Dec.{leb, eqb, lit<}
+use mir.Val.{bool_byte}
 use borrow.Author.Tests.{eqb-true, eqb-false, leb-true, leb-false}
 use Rattle.base.proofs.Steps.{mono, one_step}
-use Rattle.calendar.specs.Gregorian.{kind, year_length, year_start, years_to}
+use Rattle.calendar.specs.Gregorian.{is_leap, kind, year_length, year_start, years_to}
 
 by4 : (n : ℕ) → n % 100 ≡ 0 → n % 4 ≡ 0
 by4 n h = omega arith
@@ -40,7 +41,7 @@ hundred_le n = omega arith
 sum : (n q c f q' c' f' k : ℕ) → c ≤ n → q' + f' + c ≡ q + f + c' + k → 365 * (n + 1) + q' + f' - c' ≡ 365 * n + q + f - c + (365 + k)
 sum n q c f q' c' f' k h e = omega arith
 
-step : (n : ℕ) (a b c : Bool) → eqb ((n + 1) % 4) 0 ≡ a → eqb ((n + 1) % 100) 0 ≡ b → eqb ((n + 1) % 400) 0 ≡ c → (n + 1) / 4 + (n + 1) / 400 + n / 100 ≡ n / 4 + n / 400 + (n + 1) / 100 + cond a (cond b (cond c 1 0) 1) 0
+step : (n : ℕ) (a b c : Bool) → eqb ((n + 1) % 4) 0 ≡ a → eqb ((n + 1) % 100) 0 ≡ b → eqb ((n + 1) % 400) 0 ≡ c → (n + 1) / 4 + (n + 1) / 400 + n / 100 ≡ n / 4 + n / 400 + (n + 1) / 100 + cond (cond a (cond b c true) false) 1 0
 step n false b c p q r =
     let no4 : (n + 1) % 4 ≡ 0 → ⊥ = eqb-false ((n + 1) % 4) 0 p in
     let no100 : (n + 1) % 100 ≡ 0 → ⊥ = λ e. no4 (by4 (n + 1) e) in
@@ -66,15 +67,21 @@ up n = omega (arith, next_start n)
 pub start_mono : (a b : ℕ) → a ≤ b → year_start a ≤ year_start b
 start_mono = mono year_start up
 
-cond_lt : (a b c : Bool) → cond a (cond b (cond c 1 0) 1) 0 < 2
-cond_lt false b c = lit< tt
-cond_lt true false c = lit< tt
-cond_lt true true false = lit< tt
-cond_lt true true true = lit< tt
+pub kind_byte : (y : ℕ) → bool_byte (is_leap y) ≡ kind y
+unfolding kind
+kind_byte y = go (is_leap y)
+  where
+    go : (b : Bool) → bool_byte b ≡ cond b 1 0
+    go true = refl
+    go false = refl
 
 pub kind_lt : (y : ℕ) → kind y < 2
 unfolding kind
-kind_lt y = cond_lt (eqb (y % 4) 0) (eqb (y % 100) 0) (eqb (y % 400) 0)
+kind_lt y = go (is_leap y)
+  where
+    go : (b : Bool) → cond b 1 0 < 2
+    go true = lit< tt
+    go false = lit< tt
 
 -- ---- the estimate is the year, or the year before it
 estimate_low : (n : ℕ) → year_start (n * 400 / 146097) ≤ n

@@ -1,14 +1,18 @@
 -- The Gregorian calendar (document 01, "The calendar and the table"). A day's index counts from 0001-01-01, which has index 0.
-use Rattle.std.specs.Prelude.{ℕ, zero, suc, ◌+◌, ◌-◌, ◌*◌, ◌/◌, ◌%◌, Bool, cond, ◌&&◌, List, [], ◌∷◌, ltb, leb, eqb, ℤ, pos, negsuc, nat_abs, ◌+ℤ◌, get_or}
+use Rattle.std.specs.Prelude.{ℕ, zero, suc, ◌+◌, ◌-◌, ◌*◌, ◌/◌, ◌%◌, Bool, true, false, cond, ◌&&◌, List, [], ◌∷◌, ltb, leb, eqb, ℤ, pos, negsuc, nat_abs, ◌+ℤ◌, get_or}
 use Rattle.std.proofs.Math.IntN.{sub_ℕ}
 use Rattle.base.specs.Outcome.{Outcome, done, need, and_then, given}
 use Rattle.base.specs.Parts.{within}
 use Rattle.calendar.specs.declared.Date.{Date}
 use Rattle.calendar.specs.declared.Ordinal.{Ordinal}
 
--- "leap years divisible by 4, except by 100 and not 400": 1 for a leap year and 0 for any other
+-- "leap years divisible by 4, except by 100 and not 400"
+abbrev pub is_leap : ℕ → Bool
+is_leap y = cond (eqb (y % 4) 0) (cond (eqb (y % 100) 0) (eqb (y % 400) 0) true) false
+
+-- a year's row in the table of months: 1 for a leap year and 0 for any other
 unfoldable pub kind : ℕ → ℕ
-kind y = cond (eqb (y % 4) 0) (cond (eqb (y % 100) 0) (cond (eqb (y % 400) 0) 1 0) 1) 0
+kind y = cond (is_leap y) 1 0
 
 abbrev pub year_length : ℕ → ℕ
 year_length y = 365 + kind y

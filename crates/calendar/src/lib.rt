@@ -2,9 +2,10 @@
 // A day is counted by its index, from 0001-01-01 on, or by its day number, from 1958-01-01 on.
 #![tactic(auto)]
 
-ghost use Rattle.std.specs.Prelude.{◌≡◌, true, ℕ, ◌≤◌, ◌<◌, get_or};
-ghost use Rattle.base.specs.Outcome.{done, given};
+ghost use Rattle.std.specs.Prelude.{◌≡◌, true, ◌≤◌, ◌<◌, get_or};
+ghost use Rattle.base.specs.Outcome.{done};
 ghost use Rattle.calendar.specs.Gregorian.{
+  is_leap,
   kind,
   year_length,
   year_start,
@@ -29,12 +30,12 @@ ghost use Rattle.calendar.specs.Gregorian.{
   date_of_day,
   ordinal_of_day,
 };
-ghost use Rattle.calendar.specs.Answers.{says_index, says_day, says_date, says_ordinal};
+ghost use Rattle.base.specs.Said.{said, says};
 
-use base::{Refusal, Seat};
+use base::Refusal;
 
 // A day by year, month (1 to 12) and day of the month.
-#[derive(Clone, Copy)]
+#[derive(Clone, Copy, Debug, PartialEq, Eq)]
 pub struct Date {
     pub year: u64,
     pub month: u64,
@@ -42,38 +43,29 @@ pub struct Date {
 }
 
 // A day by year and day of the year (1 for 1 January).
-#[derive(Clone, Copy)]
+#[derive(Clone, Copy, Debug, PartialEq, Eq)]
 pub struct Ordinal {
     pub year: u64,
     pub day: u64,
 }
 
+// A day that the calendar has, by its index.
 #[derive(Clone, Copy)]
-pub enum IndexAnswer {
-    Done(u64),
-    Refused(Refusal),
-}
-
-#[derive(Clone, Copy)]
-pub enum DayAnswer {
-    Done(i64),
-    Refused(Refusal),
-}
-
-#[derive(Clone, Copy)]
-pub enum DateAnswer {
-    Done(Date),
-    Refused(Refusal),
-}
-
-#[derive(Clone, Copy)]
-pub enum OrdinalAnswer {
-    Done(Ordinal),
-    Refused(Refusal),
+struct DayIndex {
+    index: u64,
+    ghost in_calendar: { index ≤ 3652058 },
 }
 
 // What `lowered` takes off too much of an index: 2^63 less the 714,779 days before 1958-01-01.
 pub const DAY_BIAS: u64 = 9223372036854061029;
+
+const FIRST_DAY: i64 = -714779;
+
+const LAST_DAY: i64 = 2937279;
+
+const LAST_INDEX: u64 = 3652058;
+
+const LAST_YEAR: u64 = 9999;
 
 // The month lengths of ordinary years, and of leap years.
 const MONTHS: [[u8; 12]; 2] = [
@@ -82,138 +74,113 @@ const MONTHS: [[u8; 12]; 2] = [
 ];
 
 // The day number of a date.
-pub fn day_of_date(year: u64, month: u64, day: u64) -> DayAnswer
-    ensures { says_day result ≡ day_of_date year month day }
+pub fn day_of_date(year: u64, month: u64, day: u64) -> Result<i64, Refusal>
+    ensures { said result ≡ day_of_date year month day }
 {
-    numbered(index_of_date(year, month, day))
+    Ok(DayIndex::of_date(Date { year, month, day })?.number())
 }
 
 // The day number of a day of a year.
-pub fn day_of_ordinal(year: u64, day: u64) -> DayAnswer
-    ensures { says_day result ≡ day_of_ordinal year day }
+pub fn day_of_ordinal(year: u64, day: u64) -> Result<i64, Refusal>
+    ensures { said result ≡ day_of_ordinal year day }
 {
-    numbered(index_of_ordinal(year, day))
+    Ok(DayIndex::of_ordinal(Ordinal { year, day })?.number())
 }
 
 // The date with a day number.
-pub fn date_of_day(number: i64) -> DateAnswer
-    ensures { says_date result ≡ date_of_day number }
+pub fn date_of_day(number: i64) -> Result<Date, Refusal>
+    ensures { said result ≡ date_of_day number }
 {
-    let answer = index_of_day(number);
-    match answer {
-        IndexAnswer::Done(index) => date_at(index),
-        IndexAnswer::Refused(refusal) => DateAnswer::Refused(refusal),
-    }
+    date_at(index_of_day(number)?)
 }
 
 // The year and day of the year with a day number.
-pub fn ordinal_of_day(number: i64) -> OrdinalAnswer
-    ensures { says_ordinal result ≡ ordinal_of_day number }
+pub fn ordinal_of_day(number: i64) -> Result<Ordinal, Refusal>
+    ensures { said result ≡ ordinal_of_day number }
 {
-    let answer = index_of_day(number);
-    match answer {
-        IndexAnswer::Done(index) => ordinal_at(index),
-        IndexAnswer::Refused(refusal) => OrdinalAnswer::Refused(refusal),
-    }
+    ordinal_at(index_of_day(number)?)
 }
 
 // The index of a date.
-pub fn index_of_date(year: u64, month: u64, day: u64) -> IndexAnswer
-    ensures { says_index result ≡ index_of_date year month day }
+pub fn index_of_date(year: u64, month: u64, day: u64) -> Result<u64, Refusal>
+    ensures { said result ≡ index_of_date year month day }
 {
-    if is_date(year, month, day) {
-        let k = kind_of(year);
-        let i = (month - 1) as usize;
-        let passed = month_start(k, i);
-        IndexAnswer::Done(index_in(year, passed + day))
-    } else {
-        IndexAnswer::Refused(Refusal::Field)
-    }
+    Ok(DayIndex::of_date(Date { year, month, day })?.index)
 }
 
 // The index of a day of a year.
-pub fn index_of_ordinal(year: u64, day: u64) -> IndexAnswer
-    ensures { says_index result ≡ index_of_ordinal year day }
+pub fn index_of_ordinal(year: u64, day: u64) -> Result<u64, Refusal>
+    ensures { said result ≡ index_of_ordinal year day }
 {
-    if is_ordinal(year, day) {
-        IndexAnswer::Done(index_in(year, day))
-    } else {
-        IndexAnswer::Refused(Refusal::Field)
-    }
+    Ok(DayIndex::of_ordinal(Ordinal { year, day })?.index)
 }
 
 // The index with a day number.
-pub fn index_of_day(number: i64) -> IndexAnswer
-    ensures { says_index result ≡ index_of_day number }
+#[tactic(auto, using(base::proofs::Signed::back, crate::proofs::Numbers::seat_said))]
+pub fn index_of_day(number: i64) -> Result<u64, Refusal>
+    ensures { said result ≡ index_of_day number }
 {
-    let seat = base::seated(-714779, 2937279, number);
-    match seat {
-        Seat::In(index) => IndexAnswer::Done(index),
-        Seat::Out => IndexAnswer::Refused(Refusal::Range),
-    }
+    base::seated(FIRST_DAY, LAST_DAY, number).ok_or(Refusal::Range)
 }
 
 // The date with an index.
-pub fn date_at(index: u64) -> DateAnswer
-    ensures { says_date result ≡ date_at index }
+#[tactic(auto, using(crate::proofs::Promises::good_at))]
+pub fn date_at(index: u64) -> Result<Date, Refusal>
+    ensures { said result ≡ date_at index }
 {
-    let answer = ordinal_at(index);
-    match answer {
-        OrdinalAnswer::Done(o) => DateAnswer::Done(date_in(o)),
-        OrdinalAnswer::Refused(refusal) => DateAnswer::Refused(refusal),
-    }
+    Ok(date_in(ordinal_at(index)?))
 }
 
 // The year and day of the year with an index.
-pub fn ordinal_at(index: u64) -> OrdinalAnswer
-    ensures { says_ordinal result ≡ ordinal_at index }
+#[tactic(auto, unfolding(crate::specs::Gregorian::ordinal_at))]
+pub fn ordinal_at(index: u64) -> Result<Ordinal, Refusal>
+    ensures { said result ≡ ordinal_at index }
 {
-    if index <= 3652058 {
-        OrdinalAnswer::Done(ordinal_on(index))
+    if index <= LAST_INDEX {
+        Ok(DayIndex { index }.ordinal())
     } else {
-        OrdinalAnswer::Refused(Refusal::Range)
+        Err(Refusal::Range)
     }
 }
 
 // Whether the calendar has a date.
+#[tactic(auto, unfolding(crate::specs::Gregorian::is_date))]
 pub fn is_date(year: u64, month: u64, day: u64) -> bool
     ensures { result ≡ is_date year month day }
 {
-    if !is_year(year) {
-        return false;
-    }
-    let of_month = month_length(year, month);
-    (1 <= day) & (day <= of_month)
+    is_year(year) && (1..=month_length(year, month)).contains(&day)
 }
 
 // Whether the calendar has a day of a year.
+#[tactic(auto, unfolding(crate::specs::Gregorian::is_ordinal))]
 pub fn is_ordinal(year: u64, day: u64) -> bool
     ensures { result ≡ is_ordinal year day }
 {
-    let of_year = year_length(year);
-    is_year(year) & (1 <= day) & (day <= of_year)
+    is_year(year) && (1..=year_length(year)).contains(&day)
 }
 
 fn is_year(year: u64) -> bool
     ensures { result ≡ is_year year }
 {
-    (1 <= year) & (year <= 9999)
+    (1..=LAST_YEAR).contains(&year)
 }
 
-// 1 for a leap year and 0 for any other: the year's row of `MONTHS`.
-fn kind_of(year: u64) -> usize
-    ensures { result ≡ kind year }
+// `&` and `|`, not `&&` and `||`: a branch on the year is often mispredicted.
+fn is_leap(year: u64) -> bool
+    ensures { result ≡ is_leap year }
 {
-    ((year % 4 == 0) & ((year % 100 != 0) | (year % 400 == 0))) as usize
+    (year % 4 == 0) & ((year % 100 != 0) | (year % 400 == 0))
 }
 
+#[tactic(auto, using(crate::proofs::Years::kind_byte))]
 fn year_length(year: u64) -> u64
     ensures { result ≡ year_length year }
 {
-    365 + kind_of(year) as u64
+    365 + is_leap(year) as u64
 }
 
 // The days of the first n years.
+#[tactic(auto, unfolding(crate::specs::Gregorian::year_start))]
 fn year_start(n: u64) -> u64
     requires { n ≤ 10000 }
     ensures { result ≡ year_start n }
@@ -221,108 +188,130 @@ fn year_start(n: u64) -> u64
     365 * n + n / 4 + n / 400 - n / 100
 }
 
-// The whole years before a day: an estimate by the mean length of a year is right or one too low.
-fn years_to(index: u64) -> u64
-    requires { index ≤ 3652058 }
-    ensures { result ≡ years_to index }
+// The lengths of a year's months.
+#[tactic(auto, using(crate::proofs::Years::kind_byte), unfolding(crate::specs::Gregorian::row))]
+fn months_of(year: u64) -> [u8; 12]
+    ensures { result ≡ row (kind year) }
 {
-    let y = index * 400 / 146097;
-    if year_start(y + 1) <= index {
-        return y + 1;
-    }
-    y
+    MONTHS[is_leap(year) as usize]
 }
 
-// The length of the month with i months before it.
-fn length_at(k: usize, i: usize) -> u64
-    requires { (k < 2) × (i < 12) }
-    ensures { result ≡ get_or (row k) i 0 }
+// The length of the month with i months before it, read in the table: a row by value is laid out anew at each use.
+#[tactic(auto, using(crate::proofs::Years::kind_byte), unfolding(crate::specs::Gregorian::row))]
+fn length_at(year: u64, i: usize) -> u64
+    requires { i < 12 }
+    ensures { result ≡ get_or (row (kind year)) i 0 }
 {
-    MONTHS[k][i] as u64
+    MONTHS[is_leap(year) as usize][i] as u64
 }
 
-// The length of a month, or 0 for no month.
+// The length of a month, or 0 for no month, of which no day is: 1 to 0 is no range, so that no Option is asked.
+#[tactic(auto, unfolding(crate::specs::Gregorian::month_length))]
 fn month_length(year: u64, month: u64) -> u64
     ensures { result ≡ month_length year month }
 {
-    if (1 <= month) & (month <= 12) {
-        let k = kind_of(year);
-        let i = (month - 1) as usize;
-        length_at(k, i)
+    if (1..=12).contains(&month) {
+        length_at(year, (month - 1) as usize)
     } else {
         0
     }
 }
 
-// The days of the first m months.
-fn month_start(k: usize, m: usize) -> u64
-    requires { (k < 2) × (m < 12) }
-    ensures { result ≡ up_to (row k) m }
+// The days of the first n months. All twelve are gone through, as the end of a loop up to n is mispredicted.
+#[tactic(auto, using(crate::proofs::Rows::turn, crate::proofs::Rows::up_to_all))]
+fn days_before(months: [u8; 12], n: usize) -> u64
+    ensures { result ≡ up_to months n }
 {
-    // the table in a local: a constant is laid out anew at each use
-    let rows = MONTHS;
-    let mut sum = 0;
-    let mut i = 0;
-    // all twelve, as the end of a loop up to m is mispredicted
-    while i < 12 {
-        sum += rows[k][i] as u64 * (i < m) as u64;
-        i += 1;
+    let mut days = 0;
+    for (i, &length) in months.iter().enumerate() {
+        days += length as u64 * (i < n) as u64;
     }
-    sum
-}
-
-// The index of a day of a year that has it.
-fn index_in(year: u64, day: u64) -> u64
-    requires { is_ordinal year day ≡ true }
-    ensures { result ≡ day_index year day }
-{
-    year_start(year - 1) + (day - 1)
-}
-
-// The year and day of the year with an index up to the last.
-fn ordinal_on(index: u64) -> Ordinal
-    requires { index ≤ 3652058 }
-    ensures { result ≡ ordinal_on index }
-{
-    let y = years_to(index);
-    let start = year_start(y);
-    let year = y + 1;
-    let day = index - start + 1;
-    Ordinal {
-        year: year,
-        day: day,
-    }
+    days
 }
 
 // The date of a day of a year: the month with (day - 1) / 32 months before it holds the day, or the next one does.
+#[tactic(auto, using(crate::proofs::Dates::good_ordinal, crate::proofs::Dates::begun, crate::proofs::Dates::dated))]
 fn date_in(o: Ordinal) -> Date
     requires { is_ordinal o.year o.day ≡ true }
     ensures { result ≡ date_in o }
 {
-    let k = kind_of(o.year);
     let m = ((o.day - 1) / 32) as usize;
-    let left = o.day - month_start(k, m);
-    let length = length_at(k, m);
+    let left = o.day - days_before(months_of(o.year), m);
+    let length = length_at(o.year, m);
     let past = (length < left) as u64;
-    let month = m as u64 + 1 + past;
-    let day = left - length * past;
     Date {
         year: o.year,
-        month: month,
-        day: day,
+        month: m as u64 + 1 + past,
+        day: left - length * past,
     }
 }
 
-// The day number of an index.
-fn numbered(answer: IndexAnswer) -> DayAnswer
-    requires { (n : ℕ) → says_index answer ≡ done n → n ≤ 3652058 }
-    ensures { says_day result ≡ given from_epoch (says_index answer) }
-{
-    match answer {
-        IndexAnswer::Done(index) => {
-            let number = base::lowered(index + DAY_BIAS);
-            DayAnswer::Done(number)
+impl DayIndex {
+    #[tactic(auto, using(crate::proofs::Dates::good_date, crate::proofs::Dates::date_passed, crate::proofs::Dates::passed_fits, crate::proofs::Promises::index_of_good), unfolding(crate::specs::Gregorian::index_of_date))]
+    fn of_date(date: Date) -> Result<Self, Refusal>
+        ensures { says (λ d. d.index) result ≡ index_of_date date.year date.month date.day }
+    {
+        let Date { year, month, day } = date;
+        if !is_date(year, month, day) {
+            return Err(Refusal::Field);
         }
-        IndexAnswer::Refused(refusal) => DayAnswer::Refused(refusal),
+        let passed = days_before(months_of(year), (month - 1) as usize);
+        Ok(Self::in_year(Ordinal {
+            year,
+            day: passed + day,
+        }))
+    }
+
+    #[tactic(auto, unfolding(crate::specs::Gregorian::index_of_ordinal))]
+    fn of_ordinal(o: Ordinal) -> Result<Self, Refusal>
+        ensures { says (λ d. d.index) result ≡ index_of_ordinal o.year o.day }
+    {
+        if is_ordinal(o.year, o.day) {
+            Ok(Self::in_year(o))
+        } else {
+            Err(Refusal::Field)
+        }
+    }
+
+    // A day of a year that has it.
+    #[tactic(auto, using(crate::proofs::Dates::good_ordinal, crate::proofs::Dates::index_le), unfolding(crate::specs::Gregorian::day_index))]
+    fn in_year(o: Ordinal) -> Self
+        requires { is_ordinal o.year o.day ≡ true }
+        ensures { result.index ≡ day_index o.year o.day }
+    {
+        Self {
+            index: year_start(o.year - 1) + (o.day - 1),
+        }
+    }
+
+    // The whole years before the day: an estimate by the mean length of a year is right or one too low.
+    #[tactic(auto, unfolding(crate::specs::Gregorian::years_to))]
+    fn years_to(self) -> u64
+        ensures { result ≡ years_to self.index }
+    {
+        let y = self.index * 400 / 146097;
+        if year_start(y + 1) <= self.index {
+            y + 1
+        } else {
+            y
+        }
+    }
+
+    #[tactic(auto, using(crate::proofs::Years::years_hold, crate::proofs::Dates::years_lt), unfolding(crate::specs::Gregorian::ordinal_on))]
+    fn ordinal(self) -> Ordinal
+        ensures { result ≡ ordinal_on self.index }
+    {
+        let y = self.years_to();
+        Ordinal {
+            year: y + 1,
+            day: self.index - year_start(y) + 1,
+        }
+    }
+
+    // The day number.
+    fn number(self) -> i64
+        ensures { result ≡ from_epoch self.index }
+    {
+        base::lowered(self.index + DAY_BIAS)
     }
 }

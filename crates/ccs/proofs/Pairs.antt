@@ -10,18 +10,18 @@ use lib.Dec.{lit<}
 use lib.ListN.{length, take, drop}
 use lib.Seq.{drop-drop}
 use Rattle.base.specs.Outcome.{Outcome, done, need, and_then}
-use Rattle.base.proofs.Ladders.{never, done_is}
+use Rattle.base.proofs.Once.{said_done}
 use Rattle.octets.specs.Places.{all_good, bcd_value, bcd_element, bcd_good, bcd_of, bcd}
 use Rattle.octets.specs.Counts.{count_of, bcd_at}
-use Rattle.octets.specs.Writes.{says_counted}
-use Rattle.octets.specs.declared.Counted.{Counted}
-use Rattle.octets.specs.declared.Counted.TheVariants.{Done, Bad, Out}
 use Rattle.octets.proofs.Places.{number_split, good_split, places_append, number_lt, bcd_rule}
 use Rattle.octets.proofs.Counts.{told, read_lt, read_text}
 use Rattle.ccs.specs.Ccs.{pairs}
+use Rattle.base.specs.Said.{said}
+use Rattle.std.specs.Prelude.{Ok, Err}
+use Rattle.base.specs.declared.Refusal.TheVariants.{Field}
 
 -- ---- reading
-says : (g : Bool) (n : ℕ) → says_counted (cond g (Done n) Bad) ≡ need g 4 (done n)
+says : (g : Bool) (n : ℕ) → said (cond g (Ok n) (Err Field)) ≡ need g 4 (done n)
 says true n = refl
 says false n = refl
 
@@ -43,16 +43,11 @@ split s at to w k K e h l =
     (join (all_good bcd_good d w) (all_good bcd_good (drop w d) k) (bcd_of d w) (bcd_of (drop w d) k) (100 ^ k) K (λ g. number_lt bcd_rule (drop w d) k g))
 
 -- a number that was read fits its pairs, and they are those that write it
-pub pair_read : (s : List ℕ) (at w n : ℕ) → bcd_at s at w ≡ Done n → (n < 100 ^ w) × (take w (drop at s) ≡ bcd w n)
-pair_read s at w n e = let r = told 100 bcd_value bcd_good 9 s at w (Done n) e in (read_lt r bcd_rule, read_text r bcd_rule)
-
-says_done : (r : Counted) (n : ℕ) → says_counted r ≡ done n → r ≡ Done n
-says_done (Done m) n e = ap Done (done_is m n e)
-says_done Bad n e = never 4 n e
-says_done Out n e = never 1 n e
+pub pair_read : (s : List ℕ) (at w n : ℕ) → bcd_at s at w ≡ Ok n → (n < 100 ^ w) × (take w (drop at s) ≡ bcd w n)
+pair_read s at w n e = let r = told 100 bcd_value bcd_good 9 s at w (Ok n) e in (read_lt r bcd_rule, read_text r bcd_rule)
 
 pub pair_told : (s : List ℕ) (at w n : ℕ) → pairs s at w ≡ done n → (n < 100 ^ w) × (take w (drop at s) ≡ bcd w n)
-pair_told s at w n e = pair_read s at w n (says_done (bcd_at s at w) n e)
+pair_told s at w n e = pair_read s at w n (said_done (bcd_at s at w) n e)
 
 -- ---- writing
 pub pairs_append : (w k a b : ℕ) → b < 100 ^ k → bcd (w + k) (a * 100 ^ k + b) ≡ bcd w a ++ bcd k b

@@ -26,7 +26,7 @@ use Rattle.ccs.specs.Ccs.{is_layout, width, pairs, day_at, clock_at, ticks_of, f
 use Rattle.ccs.proofs.Pairs.{pair_told}
 use Rattle.ccs.proofs.Parts.{grain, pair_digits}
 use Rattle.ccs.proofs.Wholes.{day_in, clock_in, day_whole, clock_whole, day_run, clock_run, digits_of, clock_text_lem}
-use Rattle.ccs.proofs.Rungs.{width_is, on, code_text, code_length, dated}
+use Rattle.ccs.proofs.Rungs.{width_is, code_text, code_length, dated}
 use Rattle.ccs.proofs.Turns.{date_written, date_read, clock_written, clock_read, Read, code_read, read_code}
 
 -- ---- what an answered reading says
@@ -71,10 +71,16 @@ named s at l m e =
 
 -- and the digits that say it are read so
 reads_as : (s : List ℕ) (at : ℕ) (l : Layout) (date clock part : ℕ) (day : ℤ) (second : ℕ) → l.segments ≤ 6 → Read s at l.segments date clock part → day_in l.ordinal date ≡ done day → clock_in clock ≡ done second → field s at l ≡ done (moment day second (ticks_of l.segments part))
+unfolding field
 reads_as s at l date clock part day second h r p q =
-    let k : at + 4 + 3 ≡ at + 7 = omega arith in
-    on s at l h r.held (day_run s at (omega (arith, r.held)) l.ordinal r.dates ∙ p)
-    ∙ rw (clock_run s (at + 4) (omega (arith, r.held)) r.clocks ∙ q, k, r.parts)
+    rw (
+      le-leb l.segments 6 h,
+      width_is l h,
+      le-leb (at + (7 + l.segments)) (length s) r.held,
+      day_run s at (omega (arith, r.held)) l.ordinal r.dates ∙ p,
+      clock_run s (at + 4) (omega (arith, r.held)) r.clocks ∙ q,
+      r.parts,
+    )
 
 -- ---- what a written code is
 record Coded (l : Layout) (m : Moment) (code : List ℕ) : Type 0 where

@@ -10,7 +10,6 @@ use lib.Seq.{take-add, drop-drop, drop_at}
 use Rattle.base.specs.Outcome.{Outcome, done, given}
 use Rattle.base.proofs.Ladders.{then_done, given_done}
 use Rattle.octets.specs.Places.{bcd, bcd_element}
-use Rattle.octets.specs.Writes.{says_counted}
 use Rattle.octets.proofs.Places.{length_places, bcd_rule}
 use Rattle.octets.proofs.Counts.{read_back}
 use Rattle.calendar.specs.Gregorian.{index_of_day, ordinal_at, date_at, day_of_date, day_of_ordinal, date_of_day, ordinal_of_day, ymd}
@@ -23,6 +22,7 @@ use Rattle.ccs.specs.Ccs.{pairs, ordinal_text, month_text, date_text, clock_text
 use Rattle.ccs.proofs.Wholes.{day_in, clock_in, ordinal_run, month_run, clock_number, digits_of, clock_text_lem}
 use Rattle.ccs.proofs.Pairs.{pair_told}
 use Rattle.ccs.proofs.Rungs.{code_text}
+use Rattle.base.specs.Said.{said}
 
 -- ---- the date
 -- what is written of a day is eight digits, and these name the day
@@ -45,8 +45,11 @@ ordinal_day_lem k o e = let (n, (p, q)) = then_done (index_of_day k) ordinal_at 
 pub date_day : (k : ℤ) (t : Date) → date_of_day k ≡ done t → (1 ≤ t.year) × (t.year ≤ 9999) × (1 ≤ t.month) × (t.month ≤ 12) × (1 ≤ t.day) × (t.day ≤ 31)
 date_day k t e = let (n, (p, q)) = then_done (index_of_day k) date_at t e in date_fields_lem n t q
 
+-- with these, the digits of a day are its fields
+pub ruleset fields = (ordinal_day_lem, date_day, ordinal_run, month_run)
+
 pub date_written : (o : Bool) (k : ℤ) (d : List ℕ) → date_text o k ≡ done d → Dated o k d
-unfolding date_text day_in
+unfolding date_text
 date_written true k d e =
     let (r, (p, q)) = given_done ordinal_text (ordinal_of_day k) d e in
     let f = ordinal_day_lem k r p in
@@ -68,7 +71,7 @@ date_written false k d e =
 
 -- and eight digits that name a day are what is written of it
 pub date_read : (o : Bool) (k : ℤ) (n : ℕ) → day_in o n ≡ done k → date_text o k ≡ done (bcd 4 n)
-unfolding date_text day_in
+unfolding date_text
 date_read true k n e =
     let r : Ordinal = record { year = n / 10000; day = n % 10000 } in
     let z : n / 10000 * 10000 + n % 10000 ≡ n = omega arith in
@@ -80,7 +83,6 @@ date_read false k n e =
 
 -- ---- the clock
 pub clock_written : (n : ℕ) → n ≤ 86400 → (digits_of n < 1000000) × (clock_in (digits_of n) ≡ done n)
-unfolding clock_in
 clock_written n h =
     let m = minute_of n in
     let s : Shown n m = shown n h in
@@ -93,7 +95,6 @@ six : (n : ℕ) → clock_number (n / 10000) (n / 100 % 100) (n % 100) ≡ n
 six n = omega arith
 
 pub clock_read : (n x : ℕ) → clock_in n ≡ done x → (x ≤ 86400) × (clock_text x ≡ bcd 3 n)
-unfolding clock_in
 clock_read n x e =
     let h = n / 10000 in
     let m = n / 100 % 100 in
@@ -128,9 +129,9 @@ code_read s t at w date clock part h hd hc hp k e =
     let n : at + (7 + w) ≤ length s = omega (arith, length-drop at s, ap length e1, length-append a (b ++ c ++ t), length-append (b ++ c) t, length-append b c) in
     record {
       held = n;
-      dates = ap says_counted (sym (read_back bcd_rule 9 s (b ++ c ++ t) at 4 date (omega arith) hd k e1));
-      clocks = ap says_counted (sym (read_back bcd_rule 9 s (c ++ t) (at + 4) 3 clock (omega arith) hc (omega arith) e2));
-      parts = ap says_counted (sym (read_back bcd_rule 9 s t (at + 7) w part (omega arith) hp (omega arith) e3));
+      dates = ap said (sym (read_back bcd_rule 9 s (b ++ c ++ t) at 4 date (omega arith) hd k e1));
+      clocks = ap said (sym (read_back bcd_rule 9 s (c ++ t) (at + 4) 3 clock (omega arith) hc (omega arith) e2));
+      parts = ap said (sym (read_back bcd_rule 9 s t (at + 7) w part (omega arith) hp (omega arith) e3));
     }
 
 -- and read digits are a code's

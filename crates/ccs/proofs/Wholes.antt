@@ -6,7 +6,7 @@ use Prim.Native.Nat.{ℕ, ◌+◌, ◌-◌, ◌*◌, ◌/◌, ◌%◌, ◌<◌, 
 use native.Mathlib.Omega.{arith}
 use lib.IntN.{ℤ}
 use lib.ListN.{length}
-use Rattle.base.specs.Outcome.{Outcome, done, and_then}
+use Rattle.base.specs.Outcome.{Outcome, and_then}
 use Rattle.octets.specs.Places.{bcd}
 use Rattle.calendar.specs.Gregorian.{day_of_date, day_of_ordinal}
 use Rattle.calendar.specs.declared.Date.{Date}
@@ -18,12 +18,12 @@ use Rattle.ccs.proofs.Pairs.{split, pairs_append}
 
 -- ---- reading
 -- the day that eight digits name
-unfoldable pub day_in : Bool → ℕ → Outcome ℤ
+abbrev pub day_in : Bool → ℕ → Outcome ℤ
 day_in true n = day_of_ordinal (n / 10000) (n % 10000)
 day_in false n = day_of_date (n / 10000) (n / 100 % 100) (n % 100)
 
 -- the second of the day that six digits name
-unfoldable pub clock_in : ℕ → Outcome ℕ
+abbrev pub clock_in : ℕ → Outcome ℕ
 clock_in n = clock_of (n / 10000) (n / 100 % 100) (n % 100)
 
 high : (n : ℕ) → n % 10000 / 100 ≡ n / 100 % 100
@@ -45,28 +45,19 @@ three s at w K h l =
 
 module _ (s : List ℕ) (at : ℕ) where
   pub day_whole : (o : Bool) → at + 4 ≤ length s → day_at o s at ≡ and_then (pairs s at 4) (day_in o)
-  unfolding day_at day_in
+  unfolding day_at
   day_whole true l = split s at (at + 2) 2 2 day_of_ordinal refl (omega arith) l
   day_whole false l = let e : at + 3 ≡ at + 2 + 1 = omega arith in rw e (three s at 2 day_of_date (omega arith) l)
 
   pub clock_whole : at + 3 ≤ length s → clock_at s at ≡ and_then (pairs s at 3) clock_in
-  unfolding clock_at clock_in
+  unfolding clock_at
   clock_whole l =
       let e : at + 2 ≡ at + 1 + 1 = omega arith in
       rw e (three s at 1 clock_of (omega arith) l)
 
   -- what the run gives, the date and the clock give
-  module _ (l : at + 4 ≤ length s) (o : Bool) where
-    pub day_run : {x : Outcome ℕ} → pairs s at 4 ≡ x → day_at o s at ≡ and_then x (day_in o)
-    day_run e = day_whole o l ∙ ap (λ (y : Outcome ℕ). and_then y (day_in o)) e
-
-    pub day_ordinal : (n : ℕ) → o ≡ true → pairs s at 4 ≡ done n → day_at o s at ≡ day_of_ordinal (n / 10000) (n % 10000)
-    unfolding day_in
-    day_ordinal n b e = day_run e ∙ ap (λ (a : Bool). day_in a n) b
-
-    pub day_month : (n : ℕ) → o ≡ false → pairs s at 4 ≡ done n → day_at o s at ≡ day_of_date (n / 10000) (n / 100 % 100) (n % 100)
-    unfolding day_in
-    day_month n b e = day_run e ∙ ap (λ (a : Bool). day_in a n) b
+  pub day_run : at + 4 ≤ length s → (o : Bool) → {x : Outcome ℕ} → pairs s at 4 ≡ x → day_at o s at ≡ and_then x (day_in o)
+  day_run l o e = day_whole o l ∙ ap (λ (y : Outcome ℕ). and_then y (day_in o)) e
 
   pub clock_run : at + 3 ≤ length s → {x : Outcome ℕ} → pairs s at 3 ≡ x → clock_at s at ≡ and_then x clock_in
   clock_run l e = clock_whole l ∙ ap (λ (y : Outcome ℕ). and_then y clock_in) e

@@ -4,7 +4,6 @@ use Rattle.base.specs.Outcome.{Outcome, done, need, and_then, given}
 use Rattle.scale.specs.Time.{per_second}
 use Rattle.octets.specs.Places.{bcd}
 use Rattle.octets.specs.Counts.{bcd_at}
-use Rattle.octets.specs.Writes.{says_counted}
 use Rattle.calendar.specs.Gregorian.{day_of_date, day_of_ordinal, date_of_day, ordinal_of_day}
 use Rattle.calendar.specs.declared.Date.{Date}
 use Rattle.calendar.specs.declared.Ordinal.{Ordinal}
@@ -13,6 +12,7 @@ use Rattle.moment.specs.Decimal as D
 use Rattle.moment.specs.Moment.{moment, is_moment}
 use Rattle.moment.specs.declared.Moment.{Moment}
 use Rattle.ccs.specs.declared.Layout.{Layout}
+use Rattle.base.specs.Said.{said}
 
 -- "0 to 6 extra segments of two decimal digits; 7 refused"
 abbrev pub is_layout : Layout → Bool
@@ -25,7 +25,7 @@ width l = cond (is_layout l) (7 + l.segments) 0
 -- ---- the fields
 -- the number in w octets of two decimal digits: a digit over 9 is 4
 abbrev pub pairs : List ℕ → ℕ → ℕ → Outcome ℕ
-pairs s at w = says_counted (bcd_at s at w)
+pairs s at w = said (bcd_at s at w)
 
 -- "Bit 4: 0 month and day, 1 day of year (16 bits, top four zero)": the day, from 1958-01-01, that a year and a date name; a bad date is 4
 unfoldable pub day_at : Bool → List ℕ → ℕ → Outcome ℤ

@@ -1,6 +1,6 @@
 -- The laws of writing: the day's place in the field, and the three numbers stored one after another.
 use mathlib.Core.Path.{◌≡◌, refl, sym, ap, ◌∙◌}
-use mathlib.Core.Bool.{Bool, true, false, cond}
+use mathlib.Core.Bool.{Bool, true, false}
 use mathlib.Core.List.{List, ◌++◌}
 use Prim.Native.Nat.{ℕ, ◌+◌, ◌-◌, ◌^◌, ◌<◌, ◌≤◌}
 use native.Mathlib.Nat.{one-le-pow}
@@ -8,21 +8,19 @@ use native.Mathlib.Omega.{arith}
 use lib.Dec.{lit<}
 use lib.IntN.{ℤ, pos, nat_abs, ◌+ℤ◌, ◌-ℤ◌}
 use lib.ListN.{length, length-append}
-use Rattle.base.specs.Parts.{plus, minus, At}
-use Rattle.base.specs.declared.Seat.TheVariants.{In, Out}
+use Rattle.base.specs.Parts.{plus, minus, within}
 use Rattle.base.specs.declared.Refusal.TheVariants.{Room}
-use Rattle.base.proofs.Bools.{cond_yes, cond_no}
-use Rattle.base.proofs.Signed.{same, sum, difference, apart, abs_is, within_low, within_high, within_yes, within_under, within_over}
+use Rattle.base.proofs.Signed.{same, sum, difference, apart, abs_is, within_low, within_high, within_yes, seat_in_lem, seat_out}
 use Rattle.octets.specs.Places.{octet_of, octets}
 use Rattle.octets.specs.Stores.{pasted, Stored}
 use Rattle.octets.specs.Writes.{roomed, Wrote}
-use Rattle.octets.specs.declared.Written.TheVariants.{Done, Refused}
 use Rattle.octets.proofs.Places.{length_places}
 use Rattle.octets.proofs.Pastes.{length_pasted, then, stored}
 use Rattle.octets.proofs.Writes.{refuses, room_in, room_out, fills}
 use Rattle.cds.specs.Cds.{held, in_octets}
-use Rattle.cds.specs.Inner.{seat_in}
+use Rattle.base.specs.Seats.{seat_of}
 use Rattle.cds.specs.declared.Layout.{Layout}
+use Rattle.std.specs.Prelude.{Ok, Err, Some, None}
 
 -- ---- the count of days from the epoch
 module _ (l : Layout) (z : ℤ) where
@@ -42,19 +40,6 @@ module _ (l : Layout) (z : ℤ) where
         abs_is (z -ℤ l.epoch) ∙ omega (arith, g),
       )
 
-  pub held_over : (d : ℕ) → l.epoch +ℤ pos d ≡ z → 256 ^ l.day ≤ d → held l z ≡ false
-  unfolding held
-  held_over d e h =
-      let g = gap d e in
-      let k : 1 ≤ 256 ^ l.day = one-le-pow l.day 256 (lit< tt) in
-      within_over (pos 0) (pos (256 ^ l.day - 1)) (z -ℤ l.epoch) (omega (arith, g))
-
-  -- before the epoch
-  pub held_under : (B m n : ℕ) → At B m l.epoch → At B n z → n < m → held l z ≡ false
-  unfolding held
-  held_under B m n p q h =
-      within_under (pos 0) (pos (256 ^ l.day - 1)) (z -ℤ l.epoch) (omega (arith, difference z l.epoch, apart (z -ℤ l.epoch)))
-
   -- and what is held is that many days after the epoch
   pub held_is : held l z ≡ true → (l.epoch +ℤ pos (nat_abs (z -ℤ l.epoch)) ≡ z) × (nat_abs (z -ℤ l.epoch) < 256 ^ l.day)
   unfolding held
@@ -69,30 +54,26 @@ module _ (l : Layout) (z : ℤ) where
         omega (arith, low, high, n, a),
       )
 
-  pub seat_in_lem : (d : ℕ) → l.epoch +ℤ pos d ≡ z → d < 256 ^ l.day → In d ≡ seat_in l z
-  unfolding seat_in
-  seat_in_lem d e h = let (a, b) = held_so d e h in sym (cond_yes _ _ a ∙ ap In b)
+  -- ---- the seat that the code finds, from the epoch day to the last day that the field holds
+  module _ (last : ℤ) (e : last ≡ l.epoch +ℤ pos (256 ^ l.day - 1)) where
+    pub seat_held : (n : ℕ) → seat_of l.epoch last z ≡ Some n → (held l z ≡ true) × (nat_abs (z -ℤ l.epoch) ≡ n)
+    seat_held n h =
+        let t = seat_in_lem l.epoch last z n h in
+        let s = sum l.epoch (pos (256 ^ l.day - 1)) in
+        let k : 1 ≤ 256 ^ l.day = one-le-pow l.day 256 (lit< tt) in
+        held_so n (same (l.epoch +ℤ pos n) z (omega (arith, t.place, sum l.epoch (pos n)))) (omega (arith, t.place, t.high, ap plus e, ap minus e, s))
 
-  pub seat_out : held l z ≡ false → Out ≡ seat_in l z
-  unfolding seat_in
-  seat_out e = sym (cond_no _ _ e)
-
-  -- and what a seat tells
-  pub told_in : (d : ℕ) → seat_in l z ≡ In d → (held l z ≡ true) × (nat_abs (z -ℤ l.epoch) ≡ d)
-  unfolding seat_in
-  told_in d e = go (held l z) refl e
-    where
-      go : (b : Bool) → held l z ≡ b → cond b (In (nat_abs (z -ℤ l.epoch))) Out ≡ In d → (held l z ≡ true) × (nat_abs (z -ℤ l.epoch) ≡ d)
-      go true f e = (f, cc)
-      go false f e = absurd (let x : ◌≡◌ {A = ℕ} 0 1 = cc in let y : ⊥ = omega arith in y)
-
-  pub told_out : seat_in l z ≡ Out → held l z ≡ false
-  unfolding seat_in
-  told_out e = go (held l z) refl e
-    where
-      go : (b : Bool) → held l z ≡ b → cond b (In (nat_abs (z -ℤ l.epoch))) Out ≡ Out → held l z ≡ false
-      go true f e = absurd (let x : ◌≡◌ {A = ℕ} 0 1 = cc in let y : ⊥ = omega arith in y)
-      go false f e = f
+    pub seat_over : seat_of l.epoch last z ≡ None → held l z ≡ false
+    seat_over h = go (held l z) refl
+      where
+        go : (b : Bool) → held l z ≡ b → held l z ≡ false
+        go false k = k
+        go true k =
+            let (i, n) = held_is k in
+            let s = sum l.epoch (pos (256 ^ l.day - 1)) in
+            let t = sum l.epoch (pos (nat_abs (z -ℤ l.epoch))) in
+            let y : within l.epoch last z ≡ true = within_yes l.epoch last z (omega (arith, ap plus i, ap minus i, t)) (omega (arith, ap plus i, ap minus i, t, ap plus e, ap minus e, s, n)) in
+            k ∙ sym y ∙ seat_out l.epoch last z h
 
 -- ---- the T-field, stored
 module _ (l : Layout) (d m p : ℕ) where
@@ -103,10 +84,10 @@ module _ (l : Layout) (d m p : ℕ) where
       (omega (arith, length_places 256 octet_of l.day d, length_places 256 octet_of 4 m, length_places 256 octet_of l.part p))
 
   module _ (at : ℕ) (d0 : List ℕ) where
-    pub laid_out : length d0 < at + (l.day + 4 + l.part) → Wrote (roomed d0 at (in_octets l d m p)) at d0 d0 (Refused Room)
+    pub laid_out : length d0 < at + (l.day + 4 + l.part) → Wrote (roomed d0 at (in_octets l d m p)) at d0 d0 (Err Room)
     laid_out h = refuses Room _ at d0 (room_out (in_octets l d m p) at d0 (omega (arith, length_laid)))
 
-    pub laid_in : {d1 d2 d3 : List ℕ} {q r s : Bool} → at + (l.day + 4 + l.part) ≤ length d0 → Stored (octets l.day d) at d0 d1 q → Stored (octets 4 m) (at + l.day) d1 d2 r → Stored (octets l.part p) (at + l.day + 4) d2 d3 s → Wrote (roomed d0 at (in_octets l d m p)) at d0 d3 (Done (at + (l.day + 4 + l.part)))
+    pub laid_in : {d1 d2 d3 : List ℕ} {q r s : Bool} → at + (l.day + 4 + l.part) ≤ length d0 → Stored (octets l.day d) at d0 d1 q → Stored (octets 4 m) (at + l.day) d1 d2 r → Stored (octets l.part p) (at + l.day + 4) d2 d3 s → Wrote (roomed d0 at (in_octets l d m p)) at d0 d3 (Ok (at + (l.day + 4 + l.part)))
     unfolding in_octets
     laid_in {d1} {d2} {d3} h f g k =
         let A = octets l.day d in

@@ -10,12 +10,10 @@ use lib.IntN.{pos, nat_abs, ◌+ℤ◌, ◌-ℤ◌}
 use lib.ListN.{length, take, drop, length-append, length-drop}
 use lib.Seq.{take-add, drop-drop, drop_at}
 use Rattle.base.specs.Outcome.{done}
-use Rattle.base.proofs.Ladders.{never, done_is, need_done, needs_done, then_done}
+use Rattle.base.proofs.Once.{said_done}
+use Rattle.base.proofs.Ladders.{done_is, need_done, needs_done, then_done}
 use Rattle.octets.specs.Places.{octet_of, octets}
 use Rattle.octets.specs.Counts.{count_at}
-use Rattle.octets.specs.Writes.{says_counted}
-use Rattle.octets.specs.declared.Counted.{Counted}
-use Rattle.octets.specs.declared.Counted.TheVariants.{Done, Bad, Out}
 use Rattle.octets.proofs.Places.{octet_rule, length_places}
 use Rattle.octets.proofs.Counts.{read_text, read_back}
 use Rattle.moment.specs.Moment.{moment, is_moment, Floor}
@@ -26,13 +24,10 @@ use Rattle.cds.specs.declared.Layout.{Layout}
 use Rattle.cds.proofs.Laws.{layout_good, width_is, count_told, count_lt, timed_is, field_is}
 use Rattle.cds.proofs.Ticks.{fraction_back, remainder_lt, floor_below, floor_most}
 use Rattle.cds.proofs.Stores.{held_so, held_is}
+use Rattle.base.specs.Said.{said}
+use Rattle.std.specs.Prelude.{Ok}
 
 -- ---- what a reading tells
-counted_done : (c : Counted) (n : ℕ) → says_counted c ≡ done n → c ≡ Done n
-counted_done (Done m) n e = ap Done (done_is m n e)
-counted_done Bad n e = never 4 n e
-counted_done Out n e = never 1 n e
-
 -- a T-field of three numbers that names x
 pub record Timed (l : Layout) (x : Moment) (d m p : ℕ) : Type 0 where
   pub layout : is_layout l ≡ true
@@ -63,7 +58,7 @@ timed_told l x d m p a h e =
       is = done_is _ x w;
     }
 
-texts : (s : List ℕ) (at : ℕ) (l : Layout) (d m p : ℕ) → count_at s at l.day ≡ Done d → count_at s (at + l.day) 4 ≡ Done m → count_at s (at + l.day + 4) l.part ≡ Done p → take (l.day + 4 + l.part) (drop at s) ≡ in_octets l d m p
+texts : (s : List ℕ) (at : ℕ) (l : Layout) (d m p : ℕ) → count_at s at l.day ≡ Ok d → count_at s (at + l.day) 4 ≡ Ok m → count_at s (at + l.day + 4) l.part ≡ Ok p → take (l.day + 4 + l.part) (drop at s) ≡ in_octets l d m p
 unfolding in_octets
 texts s at l d m p a b c =
     let q : at + (l.day + 4) ≡ at + l.day + 4 = omega arith in
@@ -74,17 +69,17 @@ unfolding field is_layout
 found s at l x e =
     let (a, f) = needs_done (is_width l) (is_epoch_day l.epoch) 3 7 _ x e in
     let (b, g) = need_done (leb (at + width l) (length s)) 1 _ x f in
-    let (d, (i, h)) = then_done (says_counted (count_at s at l.day)) _ x g in
-    let (m, (j, k)) = then_done (says_counted (count_at s (at + l.day) 4)) _ x h in
-    let (p, (o, q)) = then_done (says_counted (count_at s (at + l.day + 4) l.part)) _ x k in
-    let cd = counted_done (count_at s at l.day) d i in
+    let (d, (i, h)) = then_done (said (count_at s at l.day)) _ x g in
+    let (m, (j, k)) = then_done (said (count_at s (at + l.day) 4)) _ x h in
+    let (p, (o, q)) = then_done (said (count_at s (at + l.day + 4) l.part)) _ x k in
+    let cd = said_done (count_at s at l.day) d i in
     record {
       d = d;
       m = m;
       p = p;
       named = timed_told l x d m p a (count_lt s at l.day d cd) q;
       fits = rw (width_is l a) at (leb-true (at + width l) (length s) b);
-      text = texts s at l d m p cd (counted_done (count_at s (at + l.day) 4) m j) (counted_done (count_at s (at + l.day + 4) l.part) p o);
+      text = texts s at l d m p cd (said_done (count_at s (at + l.day) 4) m j) (said_done (count_at s (at + l.day + 4) l.part) p o);
     }
 
 -- ---- a T-field of three numbers, read

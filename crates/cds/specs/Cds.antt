@@ -5,10 +5,10 @@ use Rattle.base.specs.Parts.{within}
 use Rattle.scale.specs.Time.{per_second}
 use Rattle.octets.specs.Places.{octets}
 use Rattle.octets.specs.Counts.{count_at}
-use Rattle.octets.specs.Writes.{says_counted}
 use Rattle.moment.specs.Moment.{moment, is_moment}
 use Rattle.moment.specs.declared.Moment.{Moment}
 use Rattle.cds.specs.declared.Layout.{Layout}
+use Rattle.base.specs.Said.{said}
 
 -- "caller's epoch day (-2^24 to 2^24 - 1)"
 abbrev pub is_epoch_day : ℤ → Bool
@@ -56,9 +56,9 @@ unfoldable pub field : List ℕ → ℕ → Layout → Outcome Moment
 field s at l =
     settled l
     (need (leb (at + width l) (length s)) 1
-    (and_then (says_counted (count_at s at l.day)) (λ d.
-    and_then (says_counted (count_at s (at + l.day) 4)) (λ m.
-    and_then (says_counted (count_at s (at + l.day + 4) l.part)) (λ p.
+    (and_then (said (count_at s at l.day)) (λ d.
+    and_then (said (count_at s (at + l.day) 4)) (λ m.
+    and_then (said (count_at s (at + l.day + 4) l.part)) (λ p.
     moment_by l d m p)))))
 
 -- the moments that its T-fields read to

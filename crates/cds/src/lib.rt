@@ -2,197 +2,164 @@
 // millisecond, in UTC. Its reading and its writing; whether the leap second table has such a second is judged above.
 #![tactic(auto)]
 
-ghost use Rattle.std.specs.Prelude.{◌≡◌, true, ◌+◌, ◌≤◌, ◌<◌, ◌^◌, length};
-ghost use Rattle.base.specs.Outcome.{and_then};
-ghost use Rattle.moment.specs.Moment.{is_moment, says_moment};
-ghost use Rattle.octets.specs.Counts.{count_at};
+ghost use Rattle.std.specs.Prelude.{◌≡◌, true, ◌^◌, ◌<◌};
+ghost use Rattle.base.specs.Outcome.{done, and_then};
+ghost use Rattle.base.specs.Said.{said, says};
+ghost use Rattle.moment.specs.Moment.{is_moment};
 ghost use Rattle.octets.specs.Writes.{roomed, Wrote};
-ghost use Rattle.octets.specs.declared.Counted.TheVariants as Counted;
-ghost use Rattle.cds.specs.Cds.{is_epoch_day, is_width, is_layout, width, parts, moment_by, field, in_octets, bytes_of};
-ghost use Rattle.cds.specs.Inner.{Good, seat_in};
+ghost use Rattle.cds.specs.Cds.{is_epoch_day, is_width, settled, width, parts, unit, moment_by, field, bytes_of};
+ghost use Rattle.cds.specs.Inner.{Good};
 
-use base::{Refusal, Seat};
-use moment::{Moment, MomentAnswer};
-use octets::{Counted, Written};
+use base::Refusal;
+use moment::Moment;
 use scale::Record;
 
 // The epoch day, the octets of the day (2 or 3) and the octets of the part of a millisecond (0, 2 or 4).
-#[derive(Clone, Copy)]
+#[derive(Clone, Copy, Debug, PartialEq, Eq)]
 pub struct Layout {
     pub epoch: i64,
     pub day: usize,
     pub part: usize,
 }
 
-// The octets of a T-field, or 0 for a layout that is none.
+// The ticks of a millisecond.
+const MILLISECOND: u64 = Record::TICKS / 1000;
+
+// The last millisecond of a day that ends in 23:59:60.
+pub const LAST_MILLISECOND: u64 = 86_400_999;
+
+// The octets of a T-field, or 0 for a layout that is none (and no Option: a public function that can not fail may not begin to).
+#[tactic(auto, using(crate::proofs::Laws::few), unfolding(crate::specs::Cds::width))]
 pub fn size(l: Layout) -> usize
     ensures { result ≡ width l }
 {
-    if is_width(l) { l.day + 4 + l.part } else { 0 }
+    if l.is_width() { l.day + 4 + l.part } else { 0 }
 }
 
 // Whether days can be counted from an epoch day.
 pub fn is_epoch(epoch: i64) -> bool
     ensures { result ≡ is_epoch_day epoch }
 {
-    base::between(-16777216, 16777215, epoch)
+    base::between(-(1 << 24), (1 << 24) - 1, epoch)
 }
 
 // The moment that the T-field from `at` on names.
-pub fn read(s: &[u8], at: usize, l: Layout) -> MomentAnswer
-    ensures { says_moment result ≡ field s.now at l }
+#[tactic(auto, using(crate::proofs::Laws::field_unjudged))]
+pub fn read(s: &[u8], at: usize, l: Layout) -> Result<Moment, Refusal>
+    ensures { said result ≡ field s.now at l }
 {
-    if !is_width(l) {
-        return MomentAnswer::Refused(Refusal::Unsupported);
-    }
-    let epoch = l.epoch;
-    if !is_epoch(epoch) {
-        return MomentAnswer::Refused(Refusal::Range);
-    }
-    let day = l.day;
-    let part = l.part;
-    let w = day + 4 + part;
-    let len = s.len();
-    if !octets::fits(len, at, w) {
-        return MomentAnswer::Refused(Refusal::Short);
-    }
-    let d = number(s, at, day);
-    let m = number(s, at + day, 4);
-    let p = number(s, at + day + 4, part);
-    moment_by(l, d, m, p)
+    l.judged()?.read(s, at)
 }
 
 // Writes a moment's T-field from `at` on, the fraction taken downward.
-pub fn write(m: Moment, l: Layout, out: &mut [u8], at: usize) -> Written
+pub fn write(m: Moment, l: Layout, out: &mut [u8], at: usize) -> Result<usize, Refusal>
     ensures { Wrote (and_then (bytes_of l m) (roomed out.old at)) at out.old out.new result }
 {
-    if !is_width(l) {
-        return Written::Refused(Refusal::Unsupported);
-    }
-    let epoch = l.epoch;
-    if !is_epoch(epoch) {
-        return Written::Refused(Refusal::Range);
-    }
+    let judged = l.judged()?;
     if !m.valid() {
-        return Written::Refused(Refusal::Range);
+        return Err(Refusal::Range);
     }
-    put(m, l, out, at)
-}
-
-// Whether a P octet gives so many octets.
-fn is_width(l: Layout) -> bool
-    ensures { result ≡ is_width l }
-{
-    let day = l.day;
-    let part = l.part;
-    ((day == 2) | (day == 3)) & ((part == 0) | (part == 2) | (part == 4))
-}
-
-// The number in w octets that are there: a slice's bytes are octets, so the other answers don't come.
-fn number(s: &[u8], at: usize, w: usize) -> u64
-    requires { (w ≤ 8) × (at + w ≤ length s.now) }
-    ensures { count_at s.now at w ≡ Counted.Done result }
-{
-    match octets::count(s, at, w) {
-        Counted::Done(n) => n,
-        Counted::Bad => 0,
-        Counted::Out => 0,
-    }
+    judged.write(m, out, at)
 }
 
 // How many parts a millisecond has.
 pub fn parts(part: usize) -> u64
     ensures { result ≡ parts part }
 {
-    if part == 0 {
-        return 1;
+    match part {
+        0 => 1,
+        2 => 1_000,
+        _ => 1_000_000_000,
     }
-    if part == 2 {
-        return 1_000;
-    }
-    1_000_000_000
 }
 
-// The moment of a day from the epoch, a millisecond of day and a part of the millisecond.
-fn moment_by(l: Layout, d: u64, m: u64, p: u64) -> MomentAnswer
-    requires { Good l × (d < 2 ^ 24) }
-    ensures { says_moment result ≡ moment_by l d m p }
-{
-    if 86400999 < m {
-        return MomentAnswer::Refused(Refusal::Field);
+// As CUC has them, of other widths and another epoch.
+impl Layout {
+    // Whether a P octet gives so many octets.
+    #[tactic(auto, unfolding(crate::specs::Cds::is_width))]
+    fn is_width(self) -> bool
+        ensures { result ≡ is_width self }
+    {
+        matches!(self.day, 2 | 3) && matches!(self.part, 0 | 2 | 4)
     }
-    let part = l.part;
-    let many = parts(part);
-    if many <= p {
-        return MomentAnswer::Refused(Refusal::Field);
-    }
-    let epoch = l.epoch;
-    let day = base::lowered(base::raised(epoch) + d);
-    let second = m / 1000;
-    let ticks = m % 1000 * (Record::TICKS / 1000) + p * (Record::TICKS / 1000 / many);
-    MomentAnswer::Done(Moment {
-        day: day,
-        second: second,
-        ticks: ticks,
-    })
-}
 
-// A UTC day's place from the epoch on, where the field can hold it.
-fn seat_of(l: Layout, day: i64) -> Seat
-    requires { Good l }
-    ensures { result ≡ seat_in l day }
-{
-    let epoch = l.epoch;
-    let w = l.day;
-    let from = base::raised(epoch);
-    let to = base::raised(day);
-    if to < from {
-        return Seat::Out;
-    }
-    let d = to - from;
-    if octets::power256(w) <= d {
-        return Seat::Out;
-    }
-    Seat::In(d)
-}
-
-// Stores a moment's T-field, where the field can hold its day.
-fn put(m: Moment, l: Layout, out: &mut [u8], at: usize) -> Written
-    requires { (is_layout l ≡ true) × (is_moment m ≡ true) }
-    ensures { Wrote (and_then (bytes_of l m) (roomed out.old at)) at out.old out.new result }
-{
-    let day = m.day;
-    let second = m.second;
-    let ticks = m.ticks;
-    match seat_of(l, day) {
-        Seat::Out => Written::Refused(Refusal::Range),
-        Seat::In(d) => {
-            let part = l.part;
-            let milli = Record::TICKS / 1000;
-            let whole = second * 1000 + ticks / milli;
-            let many = parts(part);
-            let unit = milli / many;
-            let p = ticks % milli / unit;
-            store(l, d, whole, p, out, at)
+    fn judged(self) -> Result<Judged, Refusal>
+        ensures { says (λ judged. judged.layout) result ≡ settled self (done self) }
+    {
+        if !self.is_width() {
+            return Err(Refusal::Unsupported);
         }
+        if !is_epoch(self.epoch) {
+            return Err(Refusal::Range);
+        }
+        Ok(Judged { layout: self })
     }
 }
 
-// Stores a T-field of its three numbers where there is room.
-fn store(l: Layout, d: u64, m: u64, p: u64, out: &mut [u8], at: usize) -> Written
-    requires { Good l }
-    ensures { Wrote (roomed out.old at (in_octets l d m p)) at out.old out.new result }
-{
-    let day = l.day;
-    let part = l.part;
-    let w = day + 4 + part;
-    let len = out.len();
-    if !octets::fits(len, at, w) {
-        return Written::Refused(Refusal::Room);
+// A layout of the code: a P octet gives its octets, and days can be counted from its epoch day.
+#[derive(Clone, Copy)]
+struct Judged {
+    layout: Layout,
+    ghost good: { Good layout },
+}
+
+impl Judged {
+    #[tactic(auto, using(crate::proofs::Laws::rungs, crate::proofs::Laws::days_lt))]
+    fn read(self, s: &[u8], at: usize) -> Result<Moment, Refusal>
+        ensures { said result ≡ field s.now at self.layout }
+    {
+        let l = self.layout;
+        if !octets::fits(s.len(), at, l.day + 4 + l.part) {
+            return Err(Refusal::Short);
+        }
+        let day = octets::count(s, at, l.day)?;
+        let millisecond = octets::count(s, at + l.day, 4)?;
+        let part = octets::count(s, at + l.day + 4, l.part)?;
+        self.moment(day, millisecond, part)
     }
-    let end = at + w;
-    octets::put_count(out, at, day, d);
-    octets::put_count(out, at + day, 4, m);
-    octets::put_count(out, at + day + 4, part, p);
-    Written::Done(end)
+
+    // The moment of a day from the epoch, a millisecond of day and a part of the millisecond.
+    #[tactic(auto, using(std::proofs::lemmas::Int::ints), unfolding(crate::specs::Cds::moment_by))]
+    fn moment(self, day: u64, millisecond: u64, part: u64) -> Result<Moment, Refusal>
+        requires { day < 2 ^ 24 }
+        ensures { said result ≡ moment_by self.layout day millisecond part }
+    {
+        if LAST_MILLISECOND < millisecond || parts(self.layout.part) <= part {
+            return Err(Refusal::Field);
+        }
+        Ok(Moment {
+            day: self.layout.epoch + day as i64,
+            second: millisecond / 1000,
+            ticks: millisecond % 1000 * MILLISECOND + part * self.unit(),
+        })
+    }
+
+    // Writes the T-field of a valid moment.
+    #[tactic(auto, using(crate::proofs::Laws::many_days, crate::proofs::Laws::grain, moment::proofs::Laws::moment_parts, std::proofs::lemmas::Int::ints))]
+    fn write(self, m: Moment, out: &mut [u8], at: usize) -> Result<usize, Refusal>
+        requires { is_moment m ≡ true }
+        ensures { Wrote (and_then (bytes_of self.layout m) (roomed out.old at)) at out.old out.new result }
+    {
+        let l = self.layout;
+        let last = l.epoch + (octets::power256(l.day) - 1) as i64;
+        let day = base::seated(l.epoch, last, m.day).ok_or(Refusal::Range)?;
+        let millisecond = m.second * 1000 + m.ticks / MILLISECOND;
+        let part = m.ticks % MILLISECOND / self.unit();
+        let w = l.day + 4 + l.part;
+        if !octets::fits(out.len(), at, w) {
+            return Err(Refusal::Room);
+        }
+        octets::put_count(out, at, l.day, day);
+        octets::put_count(out, at + l.day, 4, millisecond);
+        octets::put_count(out, at + l.day + 4, l.part, part);
+        Ok(at + w)
+    }
+
+    // The ticks of a part of a millisecond.
+    #[tactic(auto, using(crate::proofs::Laws::many_pos))]
+    fn unit(self) -> u64
+        ensures { result ≡ unit self.layout.part }
+    {
+        MILLISECOND / parts(self.layout.part)
+    }
 }

@@ -14,11 +14,11 @@ use Rattle.base.specs.declared.Refusal.{Refusal}
 use Rattle.base.proofs.Ladders.{never, need_done, then_done, given_done, done_is, refused_is}
 use Rattle.octets.specs.Stores.{pasted, has_room}
 use Rattle.octets.specs.Writes.{roomed, end_of, filled, Wrote}
-use Rattle.octets.specs.declared.Written.TheVariants.{Done, Refused}
 use Rattle.octets.proofs.Pastes.{length_pasted}
 use Rattle.octets.proofs.Writes.{refuses, fills, room_in}
 use Rattle.pfield.specs.declared.PField.{PField}
 use Rattle.codes.specs.Writing.{code_of, fronted}
+use Rattle.std.specs.Prelude.{Ok, Err}
 
 -- the room that a code needs is the same, counted from its T-field or from its P octet
 same_room : (d t : List ℕ) (p : PField) → need (has_room d 1 t) 8 (done (code_of true p t)) ≡ roomed d 0 (code_of true p t)
@@ -42,7 +42,7 @@ front_refused (done t) d p n h = sym (same_room d t p) ∙ go (has_room d 1 t) h
 filled_refused : (x : Outcome (List ℕ)) (at n : ℕ) (d new : List ℕ) → x ≡ refused n → new ≡ filled at x d → new ≡ d
 filled_refused x at n d new h e = rw h at e
 
-pub fronts_refused : (x : Outcome (List ℕ)) (p : PField) (d new : List ℕ) (why : Refusal) → Wrote (and_then x (roomed d 1)) 1 d new (Refused why) → Wrote (and_then x (fronted true p d)) 0 d new (Refused why)
+pub fronts_refused : (x : Outcome (List ℕ)) (p : PField) (d new : List ℕ) (why : Refusal) → Wrote (and_then x (roomed d 1)) 1 d new (Err why) → Wrote (and_then x (fronted true p d)) 0 d new (Err why)
 fronts_refused x p d new why w =
     let h = given_refused (end_of 1) (and_then x (roomed d 1)) (number why) w.answer in
     let e : new ≡ d = filled_refused (and_then x (roomed d 1)) 1 (number why) d new h w.bytes in
@@ -54,14 +54,14 @@ unfolding pasted
 set_front [] t p h = absurd (omega arith)
 set_front (y ∷ d) t p h = rw (zero-add, one-add)
 
-pub record Fronted (x : Outcome (List ℕ)) (d new : List ℕ) (n : ℕ) : Type 0 where
-  pub field : List ℕ
-  pub is : x ≡ done field
-  pub room : 1 + length field ≤ length d
-  pub ends : n ≡ 1 + length field
-  pub bytes : new ≡ pasted d 1 field
+record Fronted (x : Outcome (List ℕ)) (d new : List ℕ) (n : ℕ) : Type 0 where
+  field : List ℕ
+  is : x ≡ done field
+  room : 1 + length field ≤ length d
+  ends : n ≡ 1 + length field
+  bytes : new ≡ pasted d 1 field
 
-pub fronted_of : (x : Outcome (List ℕ)) (d new : List ℕ) (n : ℕ) → Wrote (and_then x (roomed d 1)) 1 d new (Done n) → Fronted x d new n
+fronted_of : (x : Outcome (List ℕ)) (d new : List ℕ) (n : ℕ) → Wrote (and_then x (roomed d 1)) 1 d new (Ok n) → Fronted x d new n
 unfolding roomed
 fronted_of x d new n w =
     let (t, (h, i)) = given_done (end_of 1) (and_then x (roomed d 1)) n (sym w.answer) in
@@ -76,11 +76,15 @@ fronted_of x d new n w =
       bytes = rw h at w.bytes;
     }
 
-pub fronted_long : (x : Outcome (List ℕ)) (d new : List ℕ) (n : ℕ) → Fronted x d new n → 0 < length new
-fronted_long x d new n f = let r = f.room in rw (f.bytes, length_pasted d 1 f.field r) (omega arith)
+pub fronts_long : (x : Outcome (List ℕ)) (d new : List ℕ) (n : ℕ) → Wrote (and_then x (roomed d 1)) 1 d new (Ok n) → 0 < length new
+fronts_long x d new n w =
+    let f = fronted_of x d new n w in
+    let r = f.room in
+    rw (f.bytes, length_pasted d 1 f.field r) (omega arith)
 
-pub fronts_done : (x : Outcome (List ℕ)) (p : PField) (d new : List ℕ) (n : ℕ) → Fronted x d new n → Wrote (and_then x (fronted true p d)) 0 d (set new 0 p.octet) (Done n)
-fronts_done x p d new n f =
+pub fronts_done : (x : Outcome (List ℕ)) (p : PField) (d new : List ℕ) (n : ℕ) → Wrote (and_then x (roomed d 1)) 1 d new (Ok n) → Wrote (and_then x (fronted true p d)) 0 d (set new 0 p.octet) (Ok n)
+fronts_done x p d new n w =
+    let f = fronted_of x d new n w in
     let t = f.field in
     let r = f.room in
     fills (p.octet ∷ t) (and_then x (fronted true p d)) 0 n d (set new 0 p.octet)

@@ -1,6 +1,4 @@
-pub mod Parts
 pub mod Fronts
-pub mod Stamps
 pub mod Fields
 pub mod Promises
 pub mod Texts

@@ -1,12 +1,13 @@
 -- Two answers that say the same are the same.
-use mathlib.Core.Path.{◌≡◌, refl, ap}
+use mathlib.Core.Path.{◌≡◌, refl}
+use Rattle.std.specs.Prelude.{Result}
 use Rattle.base.specs.Outcome.{Outcome}
-use Rattle.base.proofs.Once.{refusal_back, answer_once}
+use Rattle.base.specs.declared.Refusal.{Refusal}
+use Rattle.base.proofs.Once.{says_once}
 use Rattle.codes.specs.Reading.{Scanned}
-use Rattle.codes.specs.Answers.{says_scan}
-use Rattle.codes.specs.declared.ScanAnswer as R
+use Rattle.codes.specs.Answers.{scanned_as, says_scan}
+use Rattle.codes.specs.declared.Decoded.{Decoded}
 
-pub scan_once : (o : Outcome Scanned) (a b : R.ScanAnswer) → says_scan a ≡ o → says_scan b ≡ o → a ≡ b
+pub scan_once : (o : Outcome Scanned) (a b : Result Decoded Refusal) → says_scan a ≡ o → says_scan b ≡ o → a ≡ b
 scan_once =
-    answer_once says_scan (λ x. R.TheVariants.Done (record { sec = x.moment.sec; ticks = x.moment.ticks }) x.used) R.TheVariants.Refused
-    (elim [ R.TheVariants.Done r n ↦ refl | R.TheVariants.Refused why ↦ ap R.TheVariants.Refused (refusal_back why) ])
+    says_once scanned_as (λ x. record { moment = record { sec = x.moment.sec; ticks = x.moment.ticks }; used = x.used }) (λ x. refl)

@@ -17,7 +17,7 @@ use Rattle.utc.specs.Reckoning.{reckons}
 use Rattle.octets.specs.Stores.{has_room}
 use Rattle.octets.specs.Writes.{roomed}
 use Rattle.octets.proofs.Writes.{room_in}
-use Rattle.pfield.specs.PField.{laid, Headed, headed, octet, headed_of}
+use Rattle.pfield.specs.PField.{laid, headed, octet, headed_of}
 use Rattle.pfield.specs.declared.PField.{PField}
 use Rattle.pfield.specs.declared.Codes.TheVariants.{All}
 use Rattle.pfield.proofs.Heads.{head_given, head_octet, given_head, octet_head}
@@ -27,6 +27,7 @@ use Rattle.pfield.specs.declared.Layout.{Layout}
 use Rattle.pfield.specs.declared.Preamble.{Preamble}
 use Rattle.pfield.specs.declared.Preamble.TheVariants.{Front, Given}
 use Rattle.codes.proofs.Fields.{field_width, bytes_width, bytes_read, field_back}
+use Rattle.pfield.specs.declared.Head.{Head}
 
 module _ (t : Table) where
   -- ---- what a code says under a setting, and what its T-field says under the layout, are the same
@@ -34,14 +35,14 @@ module _ (t : Table) where
   unfolding scan_in
   scan_in_lem s at l m h = ap (given (scanned (at + width_of l))) h
 
-  scan_of_lem : (s : List ℕ) (p : Preamble) (e : ℤ) (h : Headed) (m : Time) → headed_of All s p e ≡ done h → field_of t s h.start h.layout ≡ done m → scan_of t s p e ≡ done (scanned (h.start + width_of h.layout) m)
+  scan_of_lem : (s : List ℕ) (p : Preamble) (e : ℤ) (h : Head) (m : Time) → headed_of All s p e ≡ done h → field_of t s h.start h.layout ≡ done m → scan_of t s p e ≡ done (scanned (h.start + width_of h.layout) m)
   unfolding scan_of
   scan_of_lem s p e h m q r =
-      ap (λ (x : Outcome Headed). and_then x (λ (h : Headed). scan_in t s h.start h.layout)) q ∙ scan_in_lem s h.start h.layout m r
+      ap (λ (x : Outcome Head). and_then x (λ (h : Head). scan_in t s h.start h.layout)) q ∙ scan_in_lem s h.start h.layout m r
 
   -- what an answered reading was made of
   pub record Read (s : List ℕ) (p : Preamble) (e : ℤ) (x : Scanned) : Type 0 where
-    pub head : Headed
+    pub head : Head
     pub heads : headed_of All s p e ≡ done head
     pub reads : field_of t s head.start head.layout ≡ done x.moment
     pub ends : head.start + width_of head.layout ≡ x.used
@@ -49,7 +50,7 @@ module _ (t : Table) where
   pub read_of : (s : List ℕ) (p : Preamble) (e : ℤ) (x : Scanned) → scan_of t s p e ≡ done x → Read s p e x
   unfolding scan_of scan_in
   read_of s p e x h =
-      let (k, (q, r)) = then_done (headed_of All s p e) (λ (k : Headed). scan_in t s k.start k.layout) x h in
+      let (k, (q, r)) = then_done (headed_of All s p e) (λ (k : Head). scan_in t s k.start k.layout) x h in
       let (m, (f, i)) = given_done (scanned (k.start + width_of k.layout)) (field_of t s k.start k.layout) x r in
       record { head = k; heads = q; reads = f ∙ ap (λ (y : Scanned). done y.moment) i; ends = ap (λ (y : Scanned). y.used) i }
 

@@ -1,10 +1,14 @@
 -- What each answer of the code says on paper.
-use Rattle.base.specs.Outcome.{Outcome, done, refused}
-use Rattle.base.specs.Refusals.{number}
+use Rattle.std.specs.Prelude.{Result}
+use Rattle.base.specs.Outcome.{Outcome}
+use Rattle.base.specs.Said.{says}
+use Rattle.base.specs.declared.Refusal.{Refusal}
 use Rattle.scale.specs.Answers.{recorded}
 use Rattle.codes.specs.Reading.{Scanned, scanned}
-use Rattle.codes.specs.declared.ScanAnswer as R
+use Rattle.codes.specs.declared.Decoded.{Decoded}
 
-abbrev pub says_scan : R.ScanAnswer → Outcome Scanned
-says_scan (R.TheVariants.Done r n) = done (scanned n (recorded r))
-says_scan (R.TheVariants.Refused why) = refused (number why)
+abbrev pub scanned_as : Decoded → Scanned
+scanned_as x = scanned x.used (recorded x.moment)
+
+abbrev pub says_scan : Result Decoded Refusal → Outcome Scanned
+says_scan r = says scanned_as r

@@ -4,7 +4,7 @@ ghost use Rattle.octets.specs.Writes.{Wrote};
 ghost use Rattle.leap.specs.Builtin.{builtin};
 ghost use Rattle.codes.specs.Setting.{written, wall_of};
 
-use octets::Written;
+use base::Refusal;
 use pfield::PField;
 use scale::Record;
 
@@ -23,7 +23,7 @@ pub const DEFAULT: ascii::Layout = ascii::Layout {
 };
 
 // Writes a moment in a setting.
-pub fn write(r: Record, setting: Setting, out: &mut [u8]) -> Written
+pub fn write(r: Record, setting: Setting, out: &mut [u8]) -> Result<usize, Refusal>
     ensures { Wrote (written builtin (recorded r) setting out.old) 0 out.old out.new result }
 {
     match setting {
@@ -33,7 +33,7 @@ pub fn write(r: Record, setting: Setting, out: &mut [u8]) -> Written
 }
 
 // The wall clock: a moment in the default setting.
-pub fn write_wall(r: Record, out: &mut [u8]) -> Written
+pub fn write_wall(r: Record, out: &mut [u8]) -> Result<usize, Refusal>
     ensures { Wrote (wall_of builtin (recorded r) out.old) 0 out.old out.new result }
 {
     super::text::write(r, DEFAULT, out, 0)

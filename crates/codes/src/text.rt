@@ -8,12 +8,10 @@ ghost use Rattle.codes.specs.Text.{text_of, letters};
 
 use ascii::Layout;
 use base::Refusal;
-use moment::MomentAnswer;
-use octets::Written;
-use scale::{Record, RecordAnswer};
+use scale::Record;
 
 // Reads a code, which is the whole slice.
-pub fn read(s: &[u8]) -> RecordAnswer
+pub fn read(s: &[u8]) -> Result<Record, Refusal>
     ensures { says_record result ≡ text_of builtin s.now }
 {
     utc::timed(ascii::read(s))
@@ -21,17 +19,15 @@ pub fn read(s: &[u8]) -> RecordAnswer
 
 // Writes a code from `at` on: the bytes before and after it stay, and a refusal leaves all. The layout is judged before
 // the table.
-pub fn write(r: Record, l: Layout, out: &mut [u8], at: usize) -> Written
+#[tactic(auto, unfolding(crate::specs::Text::letters))]
+pub fn write(r: Record, l: Layout, out: &mut [u8], at: usize) -> Result<usize, Refusal>
     ensures { Wrote (and_then (letters builtin l (recorded r)) (roomed out.old at)) at out.old out.new result }
 {
     if !r.valid() {
-        return Written::Refused(Refusal::Range);
+        return Err(Refusal::Range);
     }
     if !ascii::is_layout(l) {
-        return Written::Refused(Refusal::Unsupported);
+        return Err(Refusal::Unsupported);
     }
-    match utc::moment_of(r) {
-        MomentAnswer::Refused(why) => Written::Refused(why),
-        MomentAnswer::Done(m) => ascii_write::write(m, l, out, at),
-    }
+    ascii_write::write(utc::moment_of(r)?, l, out, at)
 }

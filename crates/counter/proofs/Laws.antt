@@ -4,14 +4,14 @@ use mathlib.Core.List.{List, ◌∷◌}
 use mathlib.Core.Logic.{⊎_elim}
 use mathlib.Core.Path.{◌≡◌, refl, sym, ◌∙◌, ap, subst}
 use Prim.Native.Nat.{ℕ, zero, suc, ◌+◌, ◌-◌, ◌*◌, ◌/◌, ◌%◌, ◌^◌, ◌≤◌, ◌<◌}
-use native.Mathlib.Nat.{div-mul-le_self, lt-div-mul-add, div-add-mod', mod-lt, add-div_right, div-eq_of_lt, eq-zero-or-pos, mul-mod_left}
+use native.Mathlib.Nat.{div-mul-le_self, lt-div-mul-add, div-add-mod', mod-lt, add-div_right, eq-zero-or-pos, mul-mod_left, add-mul-mod_self_right}
 use native.Mathlib.Omega.{arith}
 use lib.Arith.{digits_div, digits_mod}
 use lib.Dec.{leb, eqb}
 use lib.ListN.{length}
 use borrow.Author.Tests.{le-leb, lt-leb, eq-eqb, ne_eqb, leb-true, eqb-true}
-use Rattle.window.specs.Window.{None, named_in}
-use Rattle.window.proofs.Moments.{bit, bit_true, bit_false, count_is, count_up, le_or_lt, skip, hit, empty}
+use Rattle.window.specs.Window.{Unnamed, named_in}
+use Rattle.window.proofs.Moments.{bit, bit_true, bit_false, count_is, count_up, le_or_lt, skip, hit}
 use Rattle.counter.specs.Counter.{names, count_below, in_reach}
 
 and_true : (a b : Bool) → (a && b) ≡ true → (a ≡ true) × (b ≡ true)
@@ -46,14 +46,24 @@ unfolding in_reach
 good_so base period from to g =
     rw (le-leb 1 period g.some, le-leb period (2 ^ 63) g.short, le-leb base (2 ^ 63) g.based, le-leb from (2 ^ 63) g.starts, le-leb to (2 ^ 63) g.ends)
 
+pub bad_so : (base period from to : ℕ) → (Good base period from to → ⊥) → in_reach base period from to ≡ false
+bad_so base period from to h = go (in_reach base period from to) refl
+  where
+    go : (b : Bool) → in_reach base period from to ≡ b → in_reach base period from to ≡ false
+    go true e = absurd (h (good_is base period from to e))
+    go false e = e
+
+late_at : (base period x : ℕ) → base ≤ x → names base period x ≡ eqb ((x - base) % period) 0
+unfolding names
+late_at base period x h = rw (le-leb base x h)
+
 module _ (base period : ℕ) where
   early : {x : ℕ} → x < base → names base period x ≡ false
   unfolding names
   early {x} h = rw (lt-leb base x h)
 
   late : {x : ℕ} → base ≤ x → names base period x ≡ eqb ((x - base) % period) 0
-  unfolding names
-  late {x} h = rw (le-leb base x h)
+  late {x} h = late_at base period x h
 
   -- base + k × period is named, and nothing else is
   pub named_at : (k : ℕ) → names base period (base + k * period) ≡ true
@@ -75,6 +85,12 @@ module _ (base period : ℕ) where
   again x t =
       subst (λ (y : ℕ). names base period y ≡ true) (omega (arith, named_is x t)) (named_at ((x - base) / period + 1))
 
+  -- from a named one on, what it and its period name is what is named
+  pub shifted : (n m k : ℕ) → m ≡ base + n * period → m ≤ k → names base period k ≡ names m period k
+  shifted n m k i h =
+      let e : k - base ≡ k - m + n * period = omega arith in
+      late (omega arith) ∙ rw (e, add-mul-mod_self_right (k - m) n period) (sym (late_at m period k h))
+
   -- NO NAMED ONE BETWEEN TWO CONSECUTIVE NAMED ONES
   pub gap : (x y : ℕ) → names base period x ≡ true → x < y → y < x + period → names base period y ≡ false
   gap x y t h g =
@@ -84,14 +100,6 @@ module _ (base period : ℕ) where
       late (omega (arith, named_is x t)) ∙ ne_eqb ((y - base) % period) 0 (λ z. omega arith)
 
   module _ (pos : 0 < period) where
-    pub none_below : (x : ℕ) → x ≤ base → count_below base period x ≡ 0
-    unfolding count_below
-    none_below x h = div-eq_of_lt (omega arith)
-
-    pub below_small : (x : ℕ) → count_below base period x * period ≤ x - base + (period - 1)
-    unfolding count_below
-    below_small x = div-mul-le_self (x - base + (period - 1)) period
-
     -- the first one from x on
     pub first_from : (x : ℕ) → x ≤ base + count_below base period x * period
     unfolding count_below
@@ -104,7 +112,7 @@ module _ (base period : ℕ) where
         let u : suc c * period ≤ x - base + (period - 1) = rw e at (div-mul-le_self (x - base + (period - 1)) period) in
         gap (base + c * period) k (named_at c) (omega arith) (omega arith)
 
-    pub first_none : (x : ℕ) → None (names base period) x (base + count_below base period x * period)
+    pub first_none : (x : ℕ) → Unnamed (names base period) x (base + count_below base period x * period)
     first_none x k l h = none_by_lem x (count_below base period x) k refl l h
 
     -- one more at each named second

@@ -2,75 +2,56 @@
 // natural numbers.
 #![tactic(auto)]
 
-ghost use Rattle.std.specs.Prelude.{◌≡◌, map, ◌+◌, ◌*◌, ◌^◌, ◌≤◌, ◌<◌};
-ghost use Rattle.base.specs.Outcome.{done};
-ghost use Rattle.base.specs.Parts.{lowered_by};
-ghost use Rattle.window.specs.Window.{named_in, Lists};
-ghost use Rattle.counter.specs.Counter.{names, count_below, in_reach, list_of};
+ghost use Rattle.std.specs.Prelude.{◌^◌, ◌≤◌, ◌<◌};
+ghost use Rattle.window.specs.Window.{Lists};
+ghost use Rattle.counter.specs.Counter.{list_of};
+ghost use Rattle.counter.specs.Inner.{left};
 
 use base::Refusal;
-use window::Listing;
+use window::{Listed, Source};
+
+// The largest number that is taken: what is before it and a period still make a sum of 64 bits.
+const MOST: u64 = 1 << 63;
+
+// The moments at, at + period, and so on, that are before `to`.
+#[derive(Drop)]
+struct Turns {
+    at: u64,
+    period: u64,
+    to: u64,
+    ghost some: { 0 < period },
+    ghost short: { period ≤ 2 ^ 63 },
+    ghost ends: { to ≤ 2 ^ 63 },
+}
+
+impl Source for Turns {
+    ghost left = { λ s. left s.at s.period s.to };
+
+    fn next(&mut self) -> Option<i64> {
+        if self.to <= self.at {
+            return None;
+        }
+        let moment = base::lowered(self.at + base::RECORD_BIAS);
+        self.at += self.period;
+        Some(moment)
+    }
+}
 
 // Lists base + k * period, for every k from 0, from `from` on and before `to`.
-pub fn list(base: u64, period: u64, from: u64, to: u64, ticks: u64, out: &mut [i64]) -> Listing
+pub fn list(
+    base: u64,
+    period: u64,
+    from: u64,
+    to: u64,
+    ticks: u64,
+    out: &mut [i64],
+) -> Result<Listed, Refusal>
     ensures { Lists (list_of base period from to ticks) out.old out.new result }
 {
-    if !in_reach(base, period, from, to) {
-        return Listing::Refused(Refusal::Range);
+    if !(1..=MOST).contains(&period) || MOST < base.max(from).max(to) {
+        return Err(Refusal::Range);
     }
-    run(base, period, from, to, ticks, out)
-}
-
-// Whether the numbers are small enough for the machine's sums.
-fn in_reach(base: u64, period: u64, from: u64, to: u64) -> bool
-    ensures { result ≡ in_reach base period from to }
-{
-    let most = 9223372036854775808;
-    (1 <= period) & ((period <= most) & ((base <= most) & ((from <= most) & (to <= most))))
-}
-
-fn run(base: u64, period: u64, from: u64, to: u64, ticks: u64, out: &mut [i64]) -> Listing
-    requires { (0 < period) × (period ≤ 2 ^ 63) × (base ≤ 2 ^ 63) × (from ≤ 2 ^ 63) × (to ≤ 2 ^ 63) }
-    ensures { Lists (done (record { ticks = ticks; all = map (lowered_by (2 ^ 41)) (named_in (names base period) from to) })) out.old out.new result }
-{
-    let mut at = first(base, period, from);
-    let mut n: usize = 0;
-    while at < to {
-        if n == out.len() {
-            return Listing::Done {
-                ticks: ticks,
-                count: n,
-                more: true,
-            };
-        }
-        let sec = base::lowered(at + base::RECORD_BIAS);
-        out[n] = sec;
-        n += 1;
-        at += period;
-    }
-    Listing::Done {
-        ticks: ticks,
-        count: n,
-        more: false,
-    }
-}
-
-// The first one named from `from` on.
-fn first(base: u64, period: u64, from: u64) -> u64
-    requires { (0 < period) × (period ≤ 2 ^ 63) × (base ≤ 2 ^ 63) × (from ≤ 2 ^ 63) }
-    ensures { result ≡ base + count_below base period from * period }
-{
-    base + below(base, period, from) * period
-}
-
-// How many are named below x.
-fn below(base: u64, period: u64, x: u64) -> u64
-    requires { (0 < period) × (period ≤ 2 ^ 63) × (x ≤ 2 ^ 63) }
-    ensures { result ≡ count_below base period x }
-{
-    if x <= base {
-        0
-    } else {
-        (x - base + (period - 1)) / period
-    }
+    let at = base + from.saturating_sub(base).div_ceil(period) * period;
+    let listed = window::fill(Turns { at, period, to }, ticks, out);
+    Ok(listed)
 }

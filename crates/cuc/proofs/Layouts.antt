@@ -1,13 +1,15 @@
 -- What holds of a layout that there is, and its width.
-use mathlib.Core.Path.{◌≡◌}
+use mathlib.Core.Path.{◌≡◌, ◌∙◌}
 use mathlib.Core.Bool.{true, false}
-use Prim.Native.Nat.{◌+◌, ◌-◌, ◌^◌, ◌≤◌}
+use Prim.Native.Nat.{ℕ, ◌+◌, ◌-◌, ◌^◌, ◌<◌, ◌≤◌}
 use native.Mathlib.Omega.{arith}
 use borrow.Author.Tests.{leb-true, le-leb}
 use lib.Dec.{leb}
 use lib.IntN.{pos, neg_ℤ}
 use Rattle.base.proofs.Bools.{and_left, and_right, and_true, cond_yes, cond_no}
 use Rattle.base.proofs.Signed.{within_low, within_high, apart}
+use Rattle.octets.specs.Powers.{power_in}
+use Rattle.cuc.proofs.Widths.{power_pos, power_le, power_in_lem}
 use Rattle.cuc.specs.Cuc.{is_epoch, is_width, is_layout, width}
 use Rattle.cuc.specs.Inner.{Good}
 use Rattle.cuc.specs.declared.Layout.{Layout}
@@ -31,6 +33,7 @@ layout_good l e =
     let low = within_low (neg_ℤ (pos (2 ^ 40))) (pos (2 ^ 40 - 1)) l.epoch d in
     let high = within_high (neg_ℤ (pos (2 ^ 40))) (pos (2 ^ 40 - 1)) l.epoch d in
     record {
+      is = e;
       some = some;
       narrow = narrow;
       short = short;
@@ -38,9 +41,17 @@ layout_good l e =
       high = omega (arith, apart l.epoch);
     }
 
+pub judged_good : (l : Layout) → is_width l ≡ true → is_epoch l.epoch ≡ true → Good l
+unfolding is_layout
+judged_good l w e = layout_good l (rw w e)
+
 pub layout_yes : (l : Layout) → 1 ≤ l.coarse → l.coarse ≤ 4 → l.fine ≤ 3 → is_epoch l.epoch ≡ true → is_layout l ≡ true
 unfolding is_layout is_width
 layout_yes l a b c d = rw (le-leb 1 l.coarse a, le-leb l.coarse 4 b, le-leb l.fine 3 c) d
+
+-- the seconds that the field can hold, as the code's table has them
+pub many_seconds : (l : Layout) → Good l → (n : ℕ) → n ≡ power_in 256 8 l.coarse → (n ≡ 256 ^ l.coarse) × (0 < 256 ^ l.coarse) × (256 ^ l.coarse ≤ 256 ^ 4)
+many_seconds l g n e = (e ∙ power_in_lem l.coarse (omega (arith, g.narrow)), power_pos l.coarse, power_le l.coarse 4 g.narrow)
 
 pub width_some : (l : Layout) → is_width l ≡ true → width l ≡ l.coarse + l.fine
 unfolding width

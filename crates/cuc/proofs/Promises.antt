@@ -18,7 +18,6 @@ use Rattle.scale.proofs.Laws.{worth_parts, record_ticks}
 use Rattle.scale.proofs.Latest.{later_source, own_latest}
 use Rattle.octets.specs.Places.{be, octet_value}
 use Rattle.octets.specs.Counts.{count_at}
-use Rattle.octets.specs.declared.Counted.TheVariants.{Done}
 use Rattle.octets.proofs.Places.{number_split}
 use Rattle.cuc.specs.Cuc.{is_layout, width, unit, field, Reads, since, holds, parts_of, in_octets, coded, bytes_of, Holds}
 use Rattle.cuc.specs.declared.Layout.{Layout}
@@ -28,13 +27,14 @@ use Rattle.cuc.proofs.Sources.{since_is, held_so, held_is}
 use Rattle.cuc.proofs.Times.{valid_time, worth_time, floored, same_second, floored_before, floored_latest}
 use Rattle.cuc.proofs.Stores.{length_laid}
 use Rattle.cuc.proofs.Fields.{Told, Sourced, count_told, whole_lt, part_lt, told_text, laid_reads, field_told, bytes_in, bytes_out, bytes_told}
+use Rattle.std.specs.Prelude.{Ok}
 
 -- the epoch, in ticks
 abbrev pub epoch_ticks : Layout → ℤ
 epoch_ticks l = l.epoch *ℤ pos per_second
 
 -- ---- the two counts are one: "Big-endian count"
-pub one_count : (s : List ℕ) (at w k c f : ℕ) → count_at s at w ≡ Done c → count_at s (at + w) k ≡ Done f → be (drop at s) (w + k) ≡ c * 256 ^ k + f
+pub one_count : (s : List ℕ) (at w k c f : ℕ) → count_at s at w ≡ Ok c → count_at s (at + w) k ≡ Ok f → be (drop at s) (w + k) ≡ c * 256 ^ k + f
 one_count s at w k c f a b =
     rw (number_split 256 octet_value (drop at s) w k, drop-drop w at s, ← (count_told s at w c a).is, ← (count_told s (at + w) k f b).is)
 

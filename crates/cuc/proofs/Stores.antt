@@ -9,12 +9,12 @@ use Rattle.base.specs.declared.Refusal.TheVariants.{Room}
 use Rattle.octets.specs.Places.{octet_of, octets}
 use Rattle.octets.specs.Stores.{pasted, Stored}
 use Rattle.octets.specs.Writes.{roomed, Wrote}
-use Rattle.octets.specs.declared.Written.TheVariants.{Done, Refused}
 use Rattle.octets.proofs.Places.{length_places}
 use Rattle.octets.proofs.Pastes.{length_pasted, then, stored}
 use Rattle.octets.proofs.Writes.{refuses, room_in, room_out, fills}
 use Rattle.cuc.specs.Cuc.{in_octets}
 use Rattle.cuc.specs.declared.Layout.{Layout}
+use Rattle.std.specs.Prelude.{Ok, Err}
 
 module _ (l : Layout) (c f : ℕ) where
   pub length_laid : length (in_octets l c f) ≡ l.coarse + l.fine
@@ -22,10 +22,10 @@ module _ (l : Layout) (c f : ℕ) where
   length_laid = simp length-append (omega (arith, length_places 256 octet_of l.coarse c, length_places 256 octet_of l.fine f))
 
   module _ (at : ℕ) (old : List ℕ) where
-    pub laid_out : length old < at + (l.coarse + l.fine) → Wrote (roomed old at (in_octets l c f)) at old old (Refused Room)
+    pub laid_out : length old < at + (l.coarse + l.fine) → Wrote (roomed old at (in_octets l c f)) at old old (Err Room)
     laid_out h = refuses Room _ at old (room_out (in_octets l c f) at old (omega (arith, length_laid)))
 
-    pub laid_in : {mid new : List ℕ} {p q : Bool} → at + (l.coarse + l.fine) ≤ length old → Stored (octets l.coarse c) at old mid p → Stored (octets l.fine f) (at + l.coarse) mid new q → Wrote (roomed old at (in_octets l c f)) at old new (Done (at + (l.coarse + l.fine)))
+    pub laid_in : {mid new : List ℕ} {p q : Bool} → at + (l.coarse + l.fine) ≤ length old → Stored (octets l.coarse c) at old mid p → Stored (octets l.fine f) (at + l.coarse) mid new q → Wrote (roomed old at (in_octets l c f)) at old new (Ok (at + (l.coarse + l.fine)))
     unfolding in_octets
     laid_in {mid} {new} h s t =
         let A = octets l.coarse c in

@@ -5,8 +5,8 @@ use Rattle.base.specs.Parts.{plus, within}
 use Rattle.scale.specs.Time.{Time, per_second, is_record}
 use Rattle.octets.specs.Places.{octets}
 use Rattle.octets.specs.Counts.{count_at}
-use Rattle.octets.specs.Writes.{says_counted}
 use Rattle.cuc.specs.declared.Layout.{Layout}
+use Rattle.base.specs.Said.{said}
 
 -- "caller's epoch, whole TAI seconds, -2^40 to 2^40 - 1"
 abbrev pub is_epoch : ℤ → Bool
@@ -41,8 +41,8 @@ unfoldable pub field : List ℕ → ℕ → Layout → Outcome Time
 field s at l =
     settled l
     (need (leb (at + width l) (length s)) 1
-    (and_then (says_counted (count_at s at l.coarse)) (λ c.
-    given (time_of l c) (says_counted (count_at s (at + l.coarse) l.fine)))))
+    (and_then (said (count_at s at l.coarse)) (λ c.
+    given (time_of l c) (said (count_at s (at + l.coarse) l.fine)))))
 
 -- the times that T-fields of a layout read to
 abbrev pub Reads : Layout → Time → Type 0

@@ -2,172 +2,131 @@
 // octets count whole seconds and its fine ones parts of a second: two counts, each of which fits a u64.
 #![tactic(auto)]
 
-ghost use Rattle.std.specs.Prelude.{◌≡◌, true, ◌+◌, ◌<◌, ◌≤◌, ◌^◌, length};
-ghost use Rattle.base.specs.Outcome.{and_then};
+ghost use Rattle.std.specs.Prelude.{◌≡◌, true};
+ghost use Rattle.base.specs.Outcome.{done, and_then};
+ghost use Rattle.base.specs.Said.{says};
 ghost use Rattle.scale.specs.Time.{is_record};
 ghost use Rattle.scale.specs.Answers.{recorded, says_record};
-ghost use Rattle.octets.specs.Counts.{count_at};
 ghost use Rattle.octets.specs.Writes.{roomed, Wrote};
-ghost use Rattle.octets.specs.declared.Counted.TheVariants as Counted;
-ghost use Rattle.cuc.specs.Cuc.{is_epoch, is_width, is_layout, width, unit, time_of, field, in_octets, bytes_of};
-ghost use Rattle.cuc.specs.Inner.{Good, seat_in};
+ghost use Rattle.cuc.specs.Cuc.{is_epoch, is_width, settled, width, unit, field, bytes_of};
+ghost use Rattle.cuc.specs.Inner.{Good};
 
-use base::{Refusal, Seat};
-use octets::{Counted, Written};
-use scale::{Record, RecordAnswer};
+use base::Refusal;
+use scale::Record;
 
 // The epoch that a count is from, in whole TAI seconds, and the octets of its whole seconds and of its fraction.
-#[derive(Clone, Copy)]
+#[derive(Clone, Copy, Debug, PartialEq, Eq)]
 pub struct Layout {
     pub epoch: i64,
     pub coarse: usize,
     pub fine: usize,
 }
 
-// The octets of a T-field, or 0 where there is no such layout.
+// The octets of a T-field, or 0 where there is no such layout (and no Option: a public function that can not fail may not
+// begin to).
+#[tactic(auto, using(crate::proofs::Layouts::widths), unfolding(crate::specs::Cuc::width))]
 pub fn size(l: Layout) -> usize
     ensures { result ≡ width l }
 {
-    if is_width(l) { l.coarse + l.fine } else { 0 }
+    if l.is_width() { l.coarse + l.fine } else { 0 }
 }
 
 // Whether a count can be from an epoch.
 pub fn is_epoch(epoch: i64) -> bool
     ensures { result ≡ is_epoch epoch }
 {
-    base::between(-1099511627776, 1099511627775, epoch)
+    base::between(-(1 << 40), (1 << 40) - 1, epoch)
 }
 
 // The moment that the T-field from `at` on names.
-pub fn read(s: &[u8], at: usize, l: Layout) -> RecordAnswer
+#[tactic(auto, using(crate::proofs::Fields::field_unjudged))]
+pub fn read(s: &[u8], at: usize, l: Layout) -> Result<Record, Refusal>
     ensures { says_record result ≡ field s.now at l }
 {
-    if !is_width(l) {
-        return RecordAnswer::Refused(Refusal::Unsupported);
-    }
-    let epoch = l.epoch;
-    if !is_epoch(epoch) {
-        return RecordAnswer::Refused(Refusal::Range);
-    }
-    let coarse = l.coarse;
-    let fine = l.fine;
-    let w = coarse + fine;
-    let len = s.len();
-    if !octets::fits(len, at, w) {
-        return RecordAnswer::Refused(Refusal::Short);
-    }
-    let c = number(s, at, coarse);
-    let f = number(s, at + coarse, fine);
-    RecordAnswer::Done(moment(l, c, f))
+    l.judged()?.read(s, at)
 }
 
 // Writes the T-field of a moment from `at` on, its fraction taken downward.
-pub fn write(r: Record, l: Layout, out: &mut [u8], at: usize) -> Written
+pub fn write(r: Record, l: Layout, out: &mut [u8], at: usize) -> Result<usize, Refusal>
     ensures { Wrote (and_then (bytes_of l (recorded r)) (roomed out.old at)) at out.old out.new result }
 {
     if !r.valid() {
-        return Written::Refused(Refusal::Range);
+        return Err(Refusal::Range);
     }
-    if !is_width(l) {
-        return Written::Refused(Refusal::Unsupported);
-    }
-    let epoch = l.epoch;
-    if !is_epoch(epoch) {
-        return Written::Refused(Refusal::Range);
-    }
-    put(r, l, out, at)
+    l.judged()?.write(r, out, at)
 }
 
-// Whether a P octet gives so many octets.
-fn is_width(l: Layout) -> bool
-    ensures { result ≡ is_width l }
-{
-    (1 <= l.coarse) & ((l.coarse <= 4) & (l.fine <= 3))
-}
-
-// The number in w octets that are there: a slice's bytes are octets, so the other answers don't come.
-fn number(s: &[u8], at: usize, w: usize) -> u64
-    requires { (w ≤ 8) × (at + w ≤ length s.now) }
-    ensures { count_at s.now at w ≡ Counted.Done result }
-{
-    match octets::count(s, at, w) {
-        Counted::Done(n) => n,
-        Counted::Bad => 0,
-        Counted::Out => 0,
+// CDS has the like of these two functions, of other widths and another epoch: a trait for both would be longer than they are.
+impl Layout {
+    // Whether a P octet gives so many octets.
+    #[tactic(auto, unfolding(crate::specs::Cuc::is_width))]
+    fn is_width(self) -> bool
+        ensures { result ≡ is_width self }
+    {
+        (1..=4).contains(&self.coarse) && self.fine <= 3
     }
-}
 
-// The ticks of one part of a second, of which there are 256^fine: each octet is a shift by 8.
-fn unit(fine: usize) -> u64
-    requires { fine ≤ 3 }
-    ensures { result ≡ unit fine }
-{
-    let bits = 8 * fine as u64;
-    Record::TICKS >> bits
-}
-
-// The moment c whole seconds and f parts of a second after the epoch.
-fn moment(l: Layout, c: u64, f: u64) -> Record
-    requires { Good l × (c < 256 ^ l.coarse) × (f < 256 ^ l.fine) }
-    ensures { recorded result ≡ time_of l c f }
-{
-    let epoch = l.epoch;
-    let fine = l.fine;
-    let start = base::raised(epoch);
-    let ticks = f * unit(fine);
-    Record::lowered(start + c, ticks)
-}
-
-// The whole seconds of a moment from the epoch on, where the field holds them.
-fn seat_of(r: Record, l: Layout) -> Seat
-    requires { Good l }
-    ensures { result ≡ seat_in l (recorded r) }
-{
-    let epoch = l.epoch;
-    let coarse = l.coarse;
-    let from = base::raised(epoch);
-    let to = r.raised();
-    if to < from {
-        return Seat::Out;
-    }
-    let whole = to - from;
-    let most = octets::power256(coarse);
-    if most <= whole {
-        return Seat::Out;
-    }
-    Seat::In(whole)
-}
-
-// Stores the T-field of a moment, where the field holds its second.
-fn put(r: Record, l: Layout, out: &mut [u8], at: usize) -> Written
-    requires { (is_layout l ≡ true) × (is_record (recorded r) ≡ true) }
-    ensures { Wrote (and_then (bytes_of l (recorded r)) (roomed out.old at)) at out.old out.new result }
-{
-    let fine = l.fine;
-    let ticks = r.ticks;
-    match seat_of(r, l) {
-        Seat::Out => Written::Refused(Refusal::Range),
-        Seat::In(whole) => {
-            let parts = ticks / unit(fine);
-            store(l, whole, parts, out, at)
+    fn judged(self) -> Result<Judged, Refusal>
+        ensures { says (λ judged. judged.layout) result ≡ settled self (done self) }
+    {
+        if !self.is_width() {
+            return Err(Refusal::Unsupported);
         }
+        if !is_epoch(self.epoch) {
+            return Err(Refusal::Range);
+        }
+        Ok(Judged { layout: self })
     }
 }
 
-// Stores a T-field of its two counts where there is room.
-fn store(l: Layout, c: u64, f: u64, out: &mut [u8], at: usize) -> Written
-    requires { Good l }
-    ensures { Wrote (roomed out.old at (in_octets l c f)) at out.old out.new result }
-{
-    let coarse = l.coarse;
-    let fine = l.fine;
-    let w = coarse + fine;
-    let len = out.len();
-    if !octets::fits(len, at, w) {
-        return Written::Refused(Refusal::Room);
+// A layout that there is: a P octet gives its octets, and a count can be from its epoch.
+#[derive(Clone, Copy)]
+struct Judged {
+    layout: Layout,
+    ghost good: { Good layout },
+}
+
+impl Judged {
+    #[tactic(auto, using(crate::proofs::Fields::rungs, crate::proofs::Fields::seconds_lt, crate::proofs::Fields::parts_lt, std::proofs::lemmas::Int::ints))]
+    fn read(self, s: &[u8], at: usize) -> Result<Record, Refusal>
+        ensures { says_record result ≡ field s.now at self.layout }
+    {
+        let l = self.layout;
+        if !octets::fits(s.len(), at, l.coarse + l.fine) {
+            return Err(Refusal::Short);
+        }
+        let whole = octets::count(s, at, l.coarse)?;
+        let parts = octets::count(s, at + l.coarse, l.fine)?;
+        Ok(Record {
+            sec: l.epoch + whole as i64,
+            ticks: parts * self.unit(),
+        })
     }
-    let end = at + w;
-    octets::put_count(out, at, coarse, c);
-    octets::put_count(out, at + coarse, fine, f);
-    Written::Done(end)
+
+    // Writes the T-field of a valid record.
+    #[tactic(auto, using(crate::proofs::Layouts::many_seconds, crate::proofs::Widths::grain, std::proofs::lemmas::Int::ints))]
+    fn write(self, r: Record, out: &mut [u8], at: usize) -> Result<usize, Refusal>
+        requires { is_record (recorded r) ≡ true }
+        ensures { Wrote (and_then (bytes_of self.layout (recorded r)) (roomed out.old at)) at out.old out.new result }
+    {
+        let l = self.layout;
+        let last = l.epoch + (octets::power256(l.coarse) - 1) as i64;
+        let whole = base::seated(l.epoch, last, r.sec).ok_or(Refusal::Range)?;
+        let parts = r.ticks / self.unit();
+        let w = l.coarse + l.fine;
+        if !octets::fits(out.len(), at, w) {
+            return Err(Refusal::Room);
+        }
+        octets::put_count(out, at, l.coarse, whole);
+        octets::put_count(out, at + l.coarse, l.fine, parts);
+        Ok(at + w)
+    }
+
+    // The ticks of one part of a second, of which there are 256^fine: each octet is a shift by 8.
+    #[tactic(auto, using(crate::proofs::Widths::power_bits))]
+    fn unit(self) -> u64
+        ensures { result ≡ unit self.layout.fine }
+    {
+        Record::TICKS >> (8 * self.layout.fine)
+    }
 }

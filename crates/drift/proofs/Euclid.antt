@@ -2,42 +2,9 @@
 use mathlib.Core.Path.{◌≡◌, sym, ap, ◌∙◌}
 use mathlib.Core.Logic.{⊎_elim}
 use Prim.Native.Nat.{ℕ, zero, suc, ◌*◌, ◌/◌, ◌%◌, ◌<◌, ◌≤◌, ◌∣◌}
-use native.Mathlib.Nat.{
-  dvd_refl,
-  dvd-zero,
-  one-dvd,
-  dvd-mod_iff,
-  pos_of_dvd_of_pos,
-  dvd-mul_left,
-  dvd-mul_right,
-  dvd-mul_right_of_dvd,
-  dvd-add_iff_right,
-  dvd_of_mod-eq-zero,
-  mul-div_cancel',
-  eq_of_mul-eq-mul_left,
-  eq-zero-or-pos,
-  mod-lt,
-  mul_left_comm,
-  add-mul,
-  div-add-mod',
-}
+use native.Mathlib.Nat.{dvd_refl, one-dvd, dvd-mod_iff, dvd-mul_left, dvd-mul_right, dvd-mul_right_of_dvd, dvd-add_iff_right, dvd_of_mod-eq-zero, mul-div_cancel', eq_of_mul-eq-mul_left, eq-zero-or-pos, mod-lt, mul_left_comm, add-mul, div-add-mod'}
 use native.Mathlib.Omega.{arith}
 use Rattle.drift.specs.Fraction.{Coprime}
-use Rattle.drift.specs.Inner.{Greatest}
-
-pub ends : (a : ℕ) → Greatest a 0 a
-ends a = record { left = dvd_refl a; right = dvd-zero a; greatest = λ d p q. p }
-
-pub turns : (a b g : ℕ) → Greatest b (a % b) g → Greatest a b g
-turns a b g h =
-    record {
-      left = (dvd-mod_iff g h.left).0 h.right;
-      right = h.left;
-      greatest = λ d p q. h.greatest d q ((dvd-mod_iff d q).1 p);
-    }
-
-pub some : {a b g : ℕ} → 0 < b → Greatest a b g → 0 < g
-some z h = pos_of_dvd_of_pos h.right z
 
 -- one turn of Euclid on b and a; `next` is the law at b % a and a
 turn : (a b c : ℕ) → 0 < a → Coprime a b → a ∣ b * c

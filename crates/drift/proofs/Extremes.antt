@@ -20,6 +20,10 @@ pub data Each (P : Fraction → Type 0) : List (Outcome Fraction) → Type 0 whe
   rate : {f : Fraction} {os : List (Outcome Fraction)} → P f → Each P os → Each P (done f ∷ os)
   refusal : {n : ℕ} {os : List (Outcome Fraction)} → Each P os → Each P (refused n ∷ os)
 
+pub each_first : {P : Fraction → Type 0} {o : Outcome Fraction} {os : List (Outcome Fraction)} → Each P (o ∷ os) → Each P (o ∷ []) × Each P os
+each_first (rate p h) = (rate p none, h)
+each_first (refusal h) = (refusal none, h)
+
 pub each_last : {P : Fraction → Type 0} {os : List (Outcome Fraction)} {o : Outcome Fraction} → Each P os → Each P (o ∷ []) → Each P (os ++ o ∷ [])
 each_last none k = k
 each_last (rate p h) k = rate p (each_last h k)

@@ -2,13 +2,13 @@ pub mod Euclid
 pub mod Turned
 pub mod Apart
 pub mod Quotients
+pub mod Pairs
 pub mod Orders
 pub mod Wholes
 pub mod Terms
-pub mod Pairs
 pub mod Extremes
 pub mod Tallies
-pub mod Loops
+pub mod Runs
 pub mod Once
 pub mod Promises
 pub mod Known

@@ -3,23 +3,24 @@ use mathlib.Core.Path.{◌≡◌, refl, sym, ap, ◌∙◌}
 use mathlib.Core.List.{List}
 use Prim.Native.Nat.{ℕ, ◌<◌}
 use Rattle.base.specs.Outcome.{Outcome, done, refused}
-use Rattle.base.proofs.Once.{once, refusal_back, answer_once}
+use Rattle.base.proofs.Once.{once, says_once}
 use Rattle.drift.specs.Fraction.{Fraction, below, above}
 use Rattle.drift.specs.Rate.{Pair, quotient_of}
 use Rattle.drift.specs.Run.{nothing, at, twos, report_of}
 use Rattle.drift.specs.Run as R
-use Rattle.drift.specs.Answers.{says_rate, Rates, says_extreme, Shows, Reports}
-use Rattle.drift.specs.declared.RateAnswer as A
+use Rattle.drift.specs.Answers.{fraction, says_rate, Rates, says_extreme, Shows, Reports}
+use Rattle.drift.specs.declared.Rate.{Rate}
 use Rattle.drift.specs.declared.Extreme as E
 use Rattle.drift.specs.declared.Report.{Report}
 use Rattle.drift.proofs.Terms.{lowest_once}
 use Rattle.drift.proofs.Tallies.{quotient_some, twos_some}
 use Rattle.drift.proofs.Extremes.{extreme_is}
+use Rattle.std.specs.Prelude.{Result, Option, Some, None}
+use Rattle.base.specs.declared.Refusal.{Refusal}
 
-answer_of_lem : (o : Outcome Fraction) (a b : A.RateAnswer) → says_rate a ≡ o → says_rate b ≡ o → a ≡ b
+answer_of_lem : (o : Outcome Fraction) (a b : Result Rate Refusal) → says_rate a ≡ o → says_rate b ≡ o → a ≡ b
 answer_of_lem =
-    answer_once says_rate (λ f. A.TheVariants.Done (record { num = f.num; den = f.den })) A.TheVariants.Refused
-    (elim [ A.TheVariants.Done r ↦ refl | A.TheVariants.Refused why ↦ ap A.TheVariants.Refused (refusal_back why) ])
+    says_once fraction (λ f. record { num = f.num; den = f.den }) (λ r. refl)
 
 -- ---- a rate
 rated : (x o o' : Outcome Fraction) → ((q : Fraction) → x ≡ done q → 0 < q.den) → Rates x o → Rates x o' → o ≡ o'
@@ -30,14 +31,14 @@ rated (refused n) (done f) o' z l m = absurd l
 rated (refused n) (refused m) (done g) z l k = absurd k
 rated (refused n) (refused m) (refused k) z l e = ap refused (sym l ∙ e)
 
-pub rate_once : (p q : Pair) (a b : A.RateAnswer) → Rates (quotient_of p q) (says_rate a) → Rates (quotient_of p q) (says_rate b) → a ≡ b
+pub rate_once : (p q : Pair) (a b : Result Rate Refusal) → Rates (quotient_of p q) (says_rate a) → Rates (quotient_of p q) (says_rate b) → a ≡ b
 rate_once p q a b l m = answer_of_lem (says_rate b) a b (rated (quotient_of p q) (says_rate a) (says_rate b) (quotient_some p q) l m) refl
 
 -- ---- a report
-extreme_of_lem : (x : R.Extreme) (a b : E.Extreme) → says_extreme a ≡ x → says_extreme b ≡ x → a ≡ b
+extreme_of_lem : (x : R.Extreme) (a b : Option E.Extreme) → says_extreme a ≡ x → says_extreme b ≡ x → a ≡ b
 extreme_of_lem =
-    once says_extreme (elim [ nothing ↦ E.TheVariants.Nothing | at p f ↦ E.TheVariants.At p (record { num = f.num; den = f.den }) ])
-    (elim [ E.TheVariants.Nothing ↦ refl | E.TheVariants.At place r ↦ refl ])
+    once says_extreme (elim [ nothing ↦ None | at p f ↦ Some (record { place = p; rate = record { num = f.num; den = f.den } }) ])
+    (elim [ None ↦ refl | Some x ↦ refl ])
 
 shown : (x y z : R.Extreme) → ((p : ℕ) (q : Fraction) → x ≡ at p q → 0 < q.den) → Shows x y → Shows x z → y ≡ z
 shown nothing nothing nothing s l m = refl

@@ -12,7 +12,7 @@ use Rattle.base.proofs.Bools.{never_both, by_two}
 use Rattle.base.proofs.Signed.{lt_z_is, times_plus, times_minus}
 use Rattle.drift.specs.Fraction.{Fraction, below, above}
 use Rattle.drift.specs.Rate.{step}
-use Rattle.drift.specs.Inner.{in_ticks}
+use Rattle.drift.specs.Steps.{in_ticks}
 
 abbrev pub left : Fraction → Fraction → ℕ
 left f g = plus f.num * g.den + minus g.num * f.den

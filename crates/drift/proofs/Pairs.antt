@@ -4,26 +4,29 @@ use mathlib.Core.Bool.{Bool, true, false, ◌&&◌}
 use Prim.Native.Nat.{ℕ, ◌+◌, ◌*◌, ◌%◌, ◌^◌, ◌<◌}
 use native.Mathlib.Nat.{div-add-mod'}
 use native.Mathlib.Omega.{arith}
-use lib.Dec.{ltb, lit<}
+use lib.Dec.{ltb}
 use lib.IntN.{ℤ, pos, negsuc, nat_abs, ◌-ℤ◌, ◌*ℤ◌}
+use Rattle.std.specs.Prelude.{Option, Some, None}
+use Rattle.std.specs.Option.{option_zip}
+use Rattle.std.proofs.lemmas.Option.{some_pair_parts}
 use borrow.Author.Tests.{ltb-true, ltb-false, eqb-true}
-use Rattle.base.specs.Outcome.{Outcome, done, need}
+use Rattle.base.specs.Outcome.{done, refused, need}
 use Rattle.base.specs.Parts.{plus, minus, lowered_by}
-use Rattle.base.proofs.Bools.{and_left, and_right, by_two}
-use Rattle.base.proofs.Signed.{same, line, difference, lower_is, times_plus, times_minus, neg_plus, neg_minus, abs_is, apart, lt_yes, lt_no, lt_so, lt_not, within_yes, within_under, within_over}
+use Rattle.base.proofs.Bools.{and_true, and_yes, and_no, and_false, by_two}
+use Rattle.base.proofs.Ladders.{need_yes, need_no}
+use Rattle.base.proofs.Signed.{same, line, difference, lower_is, times_plus, times_minus, neg_plus, neg_minus, abs_is, lt_yes, lt_no, lt_so, lt_not, within_yes, within_under, within_over}
 use Rattle.scale.specs.Time.{Time, per_second, worth, is_record}
-use Rattle.scale.proofs.Laws.{good_within, worth_parts}
-use Rattle.drift.specs.Fraction.{Fraction}
-use Rattle.drift.specs.Rate.{Pair, step, on_grid, elapsed, short, passed, quotient_of}
-use Rattle.drift.specs.Inner as I
-use Rattle.drift.specs.Inner.{Marks, Judges, Narrow, Fit, steps_of, most, least, near, in_ticks, quotient_in}
+use Rattle.scale.proofs.Laws.{worth_parts}
+use Rattle.drift.specs.Rate.{Pair, step, of_all, on_grid, elapsed, short, passed, quotient_of}
+use Rattle.drift.specs.Steps.{most, least, near, rated}
+use Rattle.drift.specs.Inner.{of_both, Marked, Stands, Judges, steps_of, apart}
 use Rattle.drift.specs.declared.Mark.{Mark}
-use Rattle.drift.specs.declared.Judged.{Judged}
+use Rattle.drift.specs.declared.Marks.{Marks}
 use Rattle.drift.proofs.Terms.{abs_times}
 
 -- ---- a record on the grid
-on_grid_lem : (t : Time) (m : Mark) → Marks t m → on_grid t ≡ true → worth t ≡ steps_of m *ℤ pos step
-on_grid_lem t m k e =
+on_the_grid : (t : Time) (m : Mark) → Marked t m → on_grid t ≡ true → worth t ≡ steps_of m *ℤ pos step
+on_the_grid t m k e =
     let s = steps_of m in
     same (worth t) (s *ℤ pos step)
     (omega (
@@ -39,21 +42,11 @@ on_grid_lem t m k e =
       div-add-mod' t.ticks step,
     ))
 
-narrow : (t : Time) (m : Mark) → Marks t m → is_record t ≡ true → Narrow m
-narrow t m k e =
-    let w = good_within (2 ^ 41) t (lit< tt) e in
-    record { low = omega (arith, w, k.seconds, apart t.sec); high = omega (arith, w, k.seconds, apart t.sec); few = omega (arith, w.below, k.steps) }
-
-pub fit : (p : Pair) (j : Judged) → Judges p j → Fit j
-fit p j k e =
-    let f : is_record p.onboard && is_record p.ground ≡ true = sym k.valid ∙ e in
-    (narrow p.onboard j.onboard k.onboard (and_left (is_record p.onboard) (is_record p.ground) f), narrow p.ground j.ground k.ground (and_right (is_record p.onboard) (is_record p.ground) f))
-
 -- ---- elapsed times
-apart_ticks : (s t : Time) (x y : Mark) → Marks s x → Marks t y → on_grid s ≡ true → on_grid t ≡ true → elapsed s t ≡ I.apart x y *ℤ pos step
+apart_ticks : (s t : Time) (x y : Mark) → Marked s x → Marked t y → on_grid s ≡ true → on_grid t ≡ true → elapsed s t ≡ apart x y *ℤ pos step
 apart_ticks s t x y k l e f =
-    let z = I.apart x y in
-    rw (on_grid_lem s x k e, on_grid_lem t y l f)
+    let z = apart x y in
+    rw (on_the_grid s x k e, on_the_grid t y l f)
     (same (steps_of y *ℤ pos step -ℤ steps_of x *ℤ pos step) (z *ℤ pos step)
     (omega (
       arith,
@@ -92,34 +85,51 @@ passed_ticks z =
     (λ h. lt_not (pos 0) z (omega (arith, lt_no (pos 0) (z *ℤ pos step) h, times_plus z step, times_minus z step)))
 
 -- ---- the quotient
-module _ (p q : Pair) (a b : Judged) (ja : Judges p a) (jb : Judges q b) where
-  abbrev onboard : ℤ
-  onboard = I.apart a.onboard b.onboard
+not_records : (a b : Option (Option Marks)) (p q : Pair) → Judges p a → Judges q b → option_zip a b ≡ None → of_all is_record p q ≡ false
+not_records None b p q h k e = and_no (of_both is_record q) h
+not_records (Some x) None p q h k e = and_false (of_both is_record p) (of_both is_record q) k
+not_records (Some x) (Some y) p q h k e = absurd (cc)
 
-  abbrev ground : ℤ
-  ground = I.apart a.ground b.ground
+not_gridded : (x y : Option Marks) (p q : Pair) → Stands p x → Stands q y → option_zip x y ≡ None → of_all on_grid p q ≡ false
+not_gridded None y p q h k e = and_no (of_both on_grid q) h
+not_gridded (Some m) None p q h k e = and_false (of_both on_grid p) (of_both on_grid q) k
+not_gridded (Some m) (Some n) p q h k e = absurd (cc)
 
-  abbrev above : ℤ → ℤ → Outcome Fraction
-  above x y = need (short x && short y) 7 (need (passed y) 10 (done (record { num = x; den = nat_abs y })))
+zipped : {A : Type 0} (a b : Option A) {x y : A} → option_zip a b ≡ Some (x, y) → (a ≡ Some x) × (b ≡ Some y)
+zipped None b e = absurd (cc)
+zipped (Some x) None e = absurd (cc)
+zipped (Some m) (Some n) e = let (f, g) = some_pair_parts _ _ _ _ e in (ap Some f, ap Some g)
 
-  abbrev steps : Outcome Fraction
-  steps = need (near onboard && near ground) 7 (need (passed ground) 10 (done (in_ticks onboard (nat_abs ground))))
+-- a number of steps over another, and the same of their ticks
+on_ticks : (x y : ℤ) → need (short (x *ℤ pos step) && short (y *ℤ pos step)) 7 (need (passed (y *ℤ pos step)) 10 (done (record { num = x *ℤ pos step; den = nat_abs (y *ℤ pos step) }))) ≡ rated x y
+unfolding rated
+on_ticks x y = rw (short_near x, short_near y, passed_ticks y, abs_times y step)
 
-  above_steps : above (onboard *ℤ pos step) (ground *ℤ pos step) ≡ steps
-  above_steps = rw (short_near onboard, short_near ground, passed_ticks ground, abs_times ground step)
+module _ (p q : Pair) (a b : Option (Option Marks)) (ja : Judges p a) (jb : Judges q b) where
+  pub invalid : option_zip a b ≡ None → refused 7 ≡ quotient_of p q
+  unfolding quotient_of
+  invalid e = sym (need_no 7 _ (not_records a b p q ja jb e))
 
-  gridded : (t : Bool) → a.gridded && b.gridded ≡ t → need t 11 (above (elapsed p.onboard q.onboard) (elapsed p.ground q.ground)) ≡ need t 11 steps
-  gridded true e =
-      let f = rw ja.gridded at (and_left a.gridded b.gridded e) in
-      let g = rw jb.gridded at (and_right a.gridded b.gridded e) in
-      let po = and_left (on_grid p.onboard) (on_grid p.ground) f in
-      let pg = and_right (on_grid p.onboard) (on_grid p.ground) f in
-      let qo = and_left (on_grid q.onboard) (on_grid q.ground) g in
-      let qg = and_right (on_grid q.onboard) (on_grid q.ground) g in
-      rw (apart_ticks p.onboard q.onboard a.onboard b.onboard ja.onboard jb.onboard po qo, apart_ticks p.ground q.ground a.ground b.ground ja.ground jb.ground pg qg)
-      above_steps
-  gridded false e = refl
+  module _ {x y : Option Marks} (e : option_zip a b ≡ Some (x, y)) where
+    stands : (of_all is_record p q ≡ true) × Stands p x × Stands q y
+    stands =
+        let (f, g) = zipped a b e in
+        let (v, s) = rw f at ja in
+        let (w, t) = rw g at jb in
+        (and_yes (of_both is_record q) v ∙ w, s, t)
 
-  pub quotient_judged : quotient_of p q ≡ quotient_in a b
-  unfolding quotient_of quotient_in
-  quotient_judged = rw (← ja.valid, ← jb.valid, ← ja.gridded, ← jb.gridded) (ap (λ (x : Outcome Fraction). need (a.valid && b.valid) 7 x) (gridded (a.gridded && b.gridded) refl))
+    pub off_grid : option_zip x y ≡ None → refused 11 ≡ quotient_of p q
+    unfolding quotient_of
+    off_grid f = let (v, s, t) = stands in sym (need_yes 7 _ v ∙ need_no 11 _ (not_gridded x y p q s t f))
+
+    pub on_paper : {m n : Marks} → option_zip x y ≡ Some (m, n) → rated (apart m.onboard n.onboard) (apart m.ground n.ground) ≡ quotient_of p q
+    unfolding quotient_of
+    on_paper {m} {n} f =
+        let (v, s, t) = stands in
+        let (g, h) = zipped x y f in
+        let (i, so, sg) = rw g at s in
+        let (j, to, tg) = rw h at t in
+        let (po, pg) = and_true (on_grid p.onboard) (on_grid p.ground) i in
+        let (qo, qg) = and_true (on_grid q.onboard) (on_grid q.ground) j in
+        sym (need_yes 7 _ v ∙ need_yes 11 _ (and_yes (of_both on_grid q) i ∙ j)
+        ∙ rw (apart_ticks p.onboard q.onboard m.onboard n.onboard so to po qo, apart_ticks p.ground q.ground m.ground n.ground sg tg pg qg) (on_ticks (apart m.onboard n.onboard) (apart m.ground n.ground)))

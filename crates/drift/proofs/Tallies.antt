@@ -2,18 +2,18 @@
 use mathlib.Core.Path.{◌≡◌, refl, sym, ap, ◌∙◌}
 use mathlib.Core.Bool.{Bool, true, false, cond, ◌&&◌}
 use mathlib.Core.List.{List, [], ◌∷◌, ◌++◌}
-use Prim.Native.Nat.{ℕ, zero, suc, ◌+◌, ◌-◌, ◌<◌, ◌≤◌}
+use Prim.Native.Nat.{ℕ, zero, suc, ◌-◌, ◌<◌}
 use native.Mathlib.Omega.{arith}
 use lib.IntN.{pos, nat_abs}
-use lib.ListN.{length, get_or, take}
+use lib.ListN.{length, get_or}
 use Rattle.base.specs.Outcome.{Outcome, done, refused, need}
 use Rattle.base.proofs.Ladders.{done_is, need_done}
 use Rattle.base.proofs.Signed.{abs_is, lt_yes}
 use Rattle.scale.specs.Time.{is_record}
 use Rattle.drift.specs.Fraction.{Fraction, below, above}
 use Rattle.drift.specs.Rate.{Pair, on_grid, of_all, elapsed, short, passed, quotient_of}
-use Rattle.drift.specs.Run.{after, twos, is_rate, is_refusal, count, Extreme, Report, report_on}
-use Rattle.drift.specs.Inner.{none_of, more, kept, noted_of}
+use Rattle.drift.specs.Run.{after, twos, is_rate, is_refusal, count, Report, report_on}
+use Rattle.drift.specs.Inner.{none_of, more, noted_of}
 use Rattle.drift.proofs.Orders.{smaller, greater}
 use Rattle.drift.proofs.Extremes.{Each, none, rate, refusal, Tells, tells_next, tells_extreme}
 
@@ -67,12 +67,6 @@ unfolding twos
 twos_some [] = none
 twos_some (p ∷ run) = after_some p run
 
-pub take_each : {P : Fraction → Type 0} (n : ℕ) {os : List (Outcome Fraction)} → Each P os → Each P (take n os)
-take_each zero h = none
-take_each (suc n) none = none
-take_each (suc n) (rate p h) = rate p (take_each n h)
-take_each (suc n) (refusal h) = refusal (take_each n h)
-
 -- ---- counts
 count_last : (test : Outcome Fraction → Bool) (os : List (Outcome Fraction)) (o : Outcome Fraction) → more (test o) (count test os) ≡ count test (os ++ o ∷ [])
 unfolding count
@@ -87,15 +81,6 @@ count_last test (x ∷ os) o = go (test x) (test o) (count test os) _ (count_las
     go true true m n e = omega arith
     go true false m n e = ap suc e
     go false t m n e = e
-
-pub count_le : (test : Outcome Fraction → Bool) (os : List (Outcome Fraction)) → count test os ≤ length os
-unfolding count
-count_le test [] = omega arith
-count_le test (o ∷ os) = go (test o) (count_le test os)
-  where
-    go : (t : Bool) → count test os ≤ length os → cond t (suc (count test os)) (count test os) ≤ suc (length os)
-    go true h = omega arith
-    go false h = omega arith
 
 -- ---- the report, outcome after outcome
 pub record Tallied (os : List (Outcome Fraction)) (x : Report) : Type 0 where
@@ -138,8 +123,3 @@ module _ (os : List (Outcome Fraction)) (some : Each (λ f. 0 < f.den) os) where
         smallest = sym low i;
         largest = sym high i;
       }
-
--- a rate noted
-pub noted_rate : (x : Report) (place : ℕ) (f : Fraction) (low high : Extreme) → low ≡ kept below x.smallest place (done f) → high ≡ kept above x.largest place (done f)
-    → record { rates = x.rates + 1; range = x.range; not_elapsed = x.not_elapsed; off_grid = x.off_grid; smallest = low; largest = high } ≡ noted_of x place (done f)
-noted_rate x place f low high e h = rw (e, h)

@@ -1,60 +1,43 @@
 -- Lowest terms: what both sides divided by their greatest common divisor are, and nothing else is.
 use mathlib.Core.Path.{◌≡◌, refl, sym, ap, ◌∙◌}
-use Prim.Native.Nat.{ℕ, ◌+◌, ◌*◌, ◌/◌, ◌<◌, ◌∣◌}
-use native.Mathlib.Nat.{
-  one-mul,
-  zero-mul,
-  add-mul,
-  mul_assoc,
-  mul_comm,
-  mul_right_comm,
-  dvd_antisymm,
-  dvd-mul_left,
-  mul-dvd-mul_right,
-  dvd_of_mul-dvd-mul_right,
-  eq-one_of_dvd-one,
-  le_of_dvd,
-  div-mul_cancel,
-  le-div_iff_mul-le,
-  eq_of_mul-eq-mul_right,
-}
+use Prim.Native.Nat.{ℕ, ◌*◌, ◌/◌, ◌<◌, ◌≤◌, ◌∣◌}
+use native.Mathlib.Nat.{one-mul, zero-mul, mul_assoc, mul_comm, mul_right_comm, dvd_antisymm, dvd-mul_left, mul-dvd-mul_right, dvd_of_mul-dvd-mul_right, eq-one_of_dvd-one, pos_of_dvd_of_pos, le_of_dvd, div-mul_cancel, le-div_iff_mul-le, eq_of_mul-eq-mul_right}
 use native.Mathlib.Omega.{arith}
 use lib.Dec.{lit<}
-use lib.IntN.{ℤ, pos, nat_abs, ◌*ℤ◌}
+use Rattle.std.specs.Int.{IsGcd, abs_diff}
+use Rattle.std.proofs.lemmas.Int.{unsigned_abs-mul}
+use lib.IntN.{ℤ, pos, nat_abs, ◌-ℤ◌, ◌*ℤ◌}
 use Rattle.base.specs.Parts.{plus, minus, lowered_by}
-use Rattle.base.proofs.Signed.{same, times_plus, times_minus, abs_is, apart, lower_is}
+use Rattle.base.proofs.Signed.{same, difference, times_plus, times_minus, abs_is, apart, lower_is}
 use Rattle.drift.specs.Fraction.{Fraction, Lowest}
 use Rattle.drift.specs.Rate.{step}
-use Rattle.drift.specs.Inner.{Greatest, most, in_ticks, ratio}
-use Rattle.drift.proofs.Euclid.{some, gauss}
+use Rattle.drift.specs.Steps.{most, in_ticks, ratio}
+use Rattle.drift.proofs.Euclid.{gauss}
 
--- ---- raised steps
-pub size_is : (o n : ℕ) → n + most ≡ o → n ≡ nat_abs (lowered_by most o)
-size_is o n e = omega (arith, lower_is most o, abs_is (lowered_by most o), apart (lowered_by most o))
+-- ---- raised steps, without their sign
+pub size_is : (o : ℕ) → abs_diff o most ≡ nat_abs (lowered_by most o)
+size_is o = omega (arith, lower_is most o, abs_is (lowered_by most o), apart (lowered_by most o))
 
-pub size_below : (o n : ℕ) → n + o ≡ most → n ≡ nat_abs (lowered_by most o)
-size_below o n e = omega (arith, lower_is most o, abs_is (lowered_by most o), apart (lowered_by most o))
+module _ (o g : ℕ) (r : ℤ) (d : g ∣ nat_abs (lowered_by most o)) where
+  exact : abs_diff o most / g * g ≡ abs_diff o most
+  exact = div-mul_cancel g (rw (size_is o) d)
 
-module _ (o g n : ℕ) (r : ℤ) (d : g ∣ nat_abs (lowered_by most o)) where
-  pub shrunk_below : n + o ≡ most → minus r ≡ n / g + plus r → r *ℤ pos g ≡ lowered_by most o
-  shrunk_below e f =
-      let z = lowered_by most o in
-      let c : n / g * g ≡ n = div-mul_cancel g (rw (size_below o n e) d) in
-      let m : minus r ≡ n / g = omega (arith, apart r) in
-      let p : plus r ≡ 0 = omega (arith, apart r) in
-      same (r *ℤ pos g) z (rw (times_plus r g, times_minus r g, m, p, c) (omega (arith, lower_is most o, apart z)))
+  pub shrunk_below : o < most → r ≡ pos 0 -ℤ pos (abs_diff o most / g) → r *ℤ pos g ≡ lowered_by most o
+  shrunk_below h e =
+      let m = abs_diff o most / g in
+      let p : plus r ≡ 0 = rw e (omega (arith, difference (pos 0) (pos m), apart (pos 0 -ℤ pos m))) in
+      let n : minus r ≡ m = rw e (omega (arith, difference (pos 0) (pos m), apart (pos 0 -ℤ pos m))) in
+      same (r *ℤ pos g) (lowered_by most o)
+      (rw (times_plus r g, times_minus r g, p, n, exact) (omega (arith, lower_is most o)))
 
-  pub shrunk_above : n + most ≡ o → plus r ≡ n / g + minus r → r *ℤ pos g ≡ lowered_by most o
-  shrunk_above e f =
-      let z = lowered_by most o in
-      let c : n / g * g ≡ n = div-mul_cancel g (rw (size_is o n e) d) in
-      let m : minus r ≡ 0 = omega (arith, apart r) in
-      let p : plus r ≡ n / g = omega (arith, apart r) in
-      same (r *ℤ pos g) z (rw (times_plus r g, times_minus r g, m, p, c) (omega (arith, lower_is most o, apart z)))
+  pub shrunk_above : most ≤ o → r ≡ pos (abs_diff o most / g) → r *ℤ pos g ≡ lowered_by most o
+  shrunk_above h e =
+      same (r *ℤ pos g) (lowered_by most o)
+      (rw (times_plus r g, times_minus r g, e, exact) (omega (arith, lower_is most o)))
 
 -- ---- a product of integers by its parts
 pub abs_times : (z : ℤ) (k : ℕ) → nat_abs (z *ℤ pos k) ≡ nat_abs z * k
-abs_times z k = abs_is (z *ℤ pos k) ∙ rw (times_plus z k, times_minus z k, ← add-mul (plus z) (minus z) k, ← abs_is z)
+abs_times z k = unsigned_abs-mul z (pos k)
 
 -- where x j is y, x (k j) is y k
 regroup : (x y : ℤ) (j k : ℕ) → x *ℤ pos j ≡ y → x *ℤ pos (k * j) ≡ y *ℤ pos k
@@ -79,27 +62,30 @@ in_ticks_lem z b f l =
     }
 
 -- ---- lowest terms of z/b
-module _ (z num : ℤ) (b g : ℕ) (some-b : 0 < b) (h : Greatest (nat_abs z) b g) (e : num *ℤ pos g ≡ z) where
+module _ (z num : ℤ) (b g : ℕ) (some-b : 0 < b) (h : IsGcd (nat_abs z) b g) (e : num *ℤ pos g ≡ z) where
   abbrev low : Fraction
   low = record { num = num; den = b / g }
+
+  some-g : 0 < g
+  some-g = pos_of_dvd_of_pos h.1 some-b
 
   lowest : Lowest (record { num = z; den = b }) low
   lowest =
       record {
-        positive = (le-div_iff_mul-le (some some-b h)).1 (rw one-mul (le_of_dvd some-b h.right));
-        exact = ap (λ (n : ℕ). num *ℤ pos n) (sym (div-mul_cancel g h.right)) ∙ regroup num z g (b / g) e;
+        positive = (le-div_iff_mul-le some-g).1 (rw one-mul (le_of_dvd some-b h.1));
+        exact = ap (λ (n : ℕ). num *ℤ pos n) (sym (div-mul_cancel g h.1)) ∙ regroup num z g (b / g) e;
         terms =
             λ d p q.
             eq-one_of_dvd-one
-            (dvd_of_mul-dvd-mul_right d (some some-b h)
+            (dvd_of_mul-dvd-mul_right d some-g
             (rw one-mul
-            (h.greatest (d * g)
+            (h.2 (d * g)
             (rw (← e, abs_times num g) (mul-dvd-mul_right d p g))
-            (rw (div-mul_cancel g h.right) at (mul-dvd-mul_right d q g)))));
+            (rw (div-mul_cancel g h.1) at (mul-dvd-mul_right d q g)))));
       }
 
 -- raised steps over ground steps, both divided by their greatest common divisor
-pub lowest_ratio : (o b g : ℕ) (num : ℤ) → 0 < b → Greatest (nat_abs (lowered_by most o)) b g → num *ℤ pos g ≡ lowered_by most o → Lowest (ratio o b) (record { num = num; den = b / g })
+pub lowest_ratio : (o b g : ℕ) (num : ℤ) → 0 < b → IsGcd (nat_abs (lowered_by most o)) b g → num *ℤ pos g ≡ lowered_by most o → Lowest (ratio o b) (record { num = num; den = b / g })
 lowest_ratio o b g num z h e = in_ticks_lem (lowered_by most o) b _ (lowest (lowered_by most o) num b g z h e)
 
 -- ---- and there is no other

@@ -1,23 +1,10 @@
 -- Whether an/ad is less than bn/bd: by the whole parts of bd/bn and ad/an, then by what is left of them.
 use mathlib.Core.Path.{◌≡◌, sym, ap, ◌∙◌}
-use mathlib.Core.Bool.{true, false}
+use Rattle.std.specs.Prelude.{◌≢◌}
 use Prim.Native.Nat.{ℕ, ◌+◌, ◌*◌, ◌/◌, ◌%◌, ◌<◌}
-use native.Mathlib.Nat.{
-  lt-div-mul-add,
-  div-add-mod',
-  div-mul-le_self,
-  suc-mul,
-  add-mul,
-  mul_comm,
-  mul-pos,
-  zero-mul,
-  mul_right_comm,
-  mul-le-mul_right,
-  mul-lt-mul_of_pos_right,
-}
+use native.Mathlib.Nat.{lt-div-mul-add, div-add-mod', div-mul-le_self, suc-mul, add-mul, mul_comm, mul_right_comm, mul-le-mul_right, mul-lt-mul_of_pos_right}
 use native.Mathlib.Omega.{arith}
 use lib.Dec.{ltb}
-use borrow.Author.Tests.{lt-ltb, le-ltb}
 use Rattle.drift.proofs.Orders.{same_test}
 
 -- a whole part that is less makes the fraction less
@@ -33,19 +20,12 @@ lower xn xd yn yd zx zy h =
       mul-le-mul_right xd (div-mul-le_self yn yd),
     )
 
--- nothing is less than 0, and 0 is less than all else
-pub less_none : (an ad bn bd : ℕ) → bn ≡ 0 → ltb (an * bd) (bn * ad) ≡ false
-less_none an ad bn bd e = le-ltb (an * bd) (bn * ad) (rw (e, zero-mul) (omega arith))
-
-pub none_less : (an ad bn bd : ℕ) → 0 < ad → an ≡ 0 → 0 < bn → ltb (an * bd) (bn * ad) ≡ true
-none_less an ad bn bd z e h = lt-ltb (an * bd) (bn * ad) (rw (e, zero-mul) (mul-pos h z))
-
+-- whole parts that differ, turned over, decide; where they are the same, what is left does
 module _ (an ad bn bd : ℕ) (za : 0 < an) (zb : 0 < bn) where
-  pub turned_lower : bd / bn < ad / an → ltb (an * bd) (bn * ad) ≡ true
-  turned_lower h = lt-ltb (an * bd) (bn * ad) (rw (mul_comm an bd, mul_comm bn ad) (lower bd bn ad an zb za h))
-
-  pub turned_higher : ad / an < bd / bn → ltb (an * bd) (bn * ad) ≡ false
-  turned_higher h = le-ltb (an * bd) (bn * ad) (omega (arith, mul_comm an bd, mul_comm bn ad, lower ad an bd bn za zb h))
+  pub turned : ad / an ≢ bd / bn → ltb (bd / bn) (ad / an) ≡ ltb (an * bd) (bn * ad)
+  turned e =
+      rw (mul_comm an bd, mul_comm bn ad)
+      (same_test (bd / bn) (ad / an) (bd * an) (ad * bn) (lower bd bn ad an zb za) (λ h. omega (arith, lower ad an bd bn za zb (omega arith))))
 
   pub turned_rest : ad / an ≡ bd / bn → ltb (bd % bn * an) (ad % an * bn) ≡ ltb (an * bd) (bn * ad)
   turned_rest e =

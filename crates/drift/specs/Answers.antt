@@ -1,8 +1,8 @@
 -- What each answer of the code says on paper, and what it owes to the definitions.
-use Rattle.std.specs.Prelude.{◌≡◌, List, ℤ, pos, get_or}
+use Rattle.std.specs.Prelude.{◌≡◌, List, ℤ, pos, get_or, Result, Option, Some, None}
 use Rattle.base.specs.Outcome.{Outcome, done, refused}
 use Rattle.base.specs.Parts.{bits_of}
-use Rattle.base.specs.Refusals.{number}
+use Rattle.base.specs.Said.{says}
 use Rattle.scale.specs.Answers.{recorded}
 use Rattle.drift.specs.Fraction.{Fraction, Lowest}
 use Rattle.drift.specs.Rate as P
@@ -10,9 +10,9 @@ use Rattle.drift.specs.Run as R
 use Rattle.drift.specs.Run.{nothing, at}
 use Rattle.drift.specs.declared.Pair.{Pair}
 use Rattle.drift.specs.declared.Rate.{Rate}
-use Rattle.drift.specs.declared.RateAnswer as A
 use Rattle.drift.specs.declared.Extreme as E
 use Rattle.drift.specs.declared.Report.{Report}
+use Rattle.base.specs.declared.Refusal.{Refusal}
 
 abbrev pub paired : Pair → P.Pair
 paired p = P.pair_of (recorded p.onboard) (recorded p.ground)
@@ -26,9 +26,8 @@ pair_in row =
 abbrev pub fraction : Rate → Fraction
 fraction r = record { num = r.num; den = r.den }
 
-abbrev pub says_rate : A.RateAnswer → Outcome Fraction
-says_rate (A.TheVariants.Done r) = done (fraction r)
-says_rate (A.TheVariants.Refused why) = refused (number why)
+abbrev pub says_rate : Result Rate Refusal → Outcome Fraction
+says_rate r = says fraction r
 
 -- a rate is the quotient in lowest terms, and a refusal the quotient's own
 abbrev pub Rates : Outcome Fraction → Outcome Fraction → Type 0
@@ -42,9 +41,9 @@ abbrev pub Lowered : Outcome Fraction → Fraction → Fraction → Type 0
 Lowered (done q) old new = Lowest q new
 Lowered (refused n) old new = new ≡ old
 
-abbrev pub says_extreme : E.Extreme → R.Extreme
-says_extreme E.TheVariants.Nothing = nothing
-says_extreme (E.TheVariants.At place r) = at place (fraction r)
+abbrev pub says_extreme : Option E.Extreme → R.Extreme
+says_extreme None = nothing
+says_extreme (Some x) = at x.place (fraction x.rate)
 
 -- an extreme is told with its place, and in lowest terms
 abbrev pub Shows : R.Extreme → R.Extreme → Type 0

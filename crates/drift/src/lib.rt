@@ -1,48 +1,16 @@
 // Drift: the exact rate between two pairs of an onboard and a ground record, and the extremes over a run of pairs.
 #![tactic(auto)]
 
-ghost use Rattle.std.specs.Prelude.{◌≡◌, [], map, ◌<◌, ◌≤◌, ◌*◌, ltb, pos, nat_abs, ◌*ℤ◌, length, get_or};
-ghost use Rattle.std.specs.Int.{◌∣◌};
-ghost use Rattle.base.specs.Outcome.{done};
-ghost use Rattle.base.specs.Parts.{lowered_by};
-ghost use Rattle.base.specs.Seats.{seat_of};
+ghost use Rattle.std.specs.Prelude.{◌≡◌, ◌+◌, ◌*◌, ◌^◌, ◌<◌, ◌≤◌, ltb, map};
+ghost use Rattle.std.specs.Int.{IsGcd};
 ghost use Rattle.scale.specs.Answers.{recorded};
-ghost use Rattle.drift.specs.Fraction.{below, Lowest};
+ghost use Rattle.drift.specs.Fraction.{Lowest};
 ghost use Rattle.drift.specs.Rate.{on_grid, quotient_of};
 ghost use Rattle.drift.specs.Run.{report_of};
-ghost use Rattle.drift.specs.Answers.{paired, pair_in, fraction, says_rate, Rates, says_extreme, Shows, Reports};
-ghost use Rattle.drift.specs.Inner.{
-  Marks,
-  Judges,
-  Narrow,
-  Fit,
-  apart,
-  most,
-  least,
-  quotient_in,
-  over_of,
-  Few,
-  Quotes,
-  says_quotient,
-  Ratio,
-  ratio,
-  Parts,
-  Parted,
-  ratio_of,
-  beats_by,
-  kept,
-  says_best,
-  Sound,
-  Room,
-  Keeps,
-  says_tally,
-  noted_of,
-  none_of,
-  Notes,
-  Greatest,
-};
+ghost use Rattle.drift.specs.Answers.{paired, pair_in, fraction, says_rate, Rates, Reports};
+ghost use Rattle.drift.specs.Steps.{most};
 
-use base::{Refusal, Seat};
+use base::Refusal;
 use scale::Record;
 
 // An onboard record, and the ground record that it is paired with.
@@ -53,220 +21,216 @@ pub struct Pair {
 }
 
 // Onboard elapsed over ground elapsed, in lowest terms: 0 is 0/1.
-#[derive(Clone, Copy)]
+#[derive(Clone, Copy, Debug, PartialEq, Eq)]
 pub struct Rate {
     pub num: i64,
     pub den: u64,
 }
 
-#[derive(Clone, Copy)]
-pub enum RateAnswer {
-    Done(Rate),
-    Refused(Refusal),
-}
-
 // A rate of a run, and its first place among all neighbouring twos, from 0.
-#[derive(Clone, Copy)]
-pub enum Extreme {
-    Nothing,
-    At(usize, Rate),
+#[derive(Clone, Copy, Debug, PartialEq, Eq)]
+pub struct Extreme {
+    pub place: usize,
+    pub rate: Rate,
 }
 
 // Over the neighbouring twos of a run: how many have a rate, how many are refused 7, 10 and 11, and the extremes.
-#[derive(Clone, Copy)]
+#[derive(Clone, Copy, Debug, PartialEq, Eq)]
 pub struct Report {
     pub rates: usize,
     pub range: usize,
     pub not_elapsed: usize,
     pub off_grid: usize,
-    pub smallest: Extreme,
-    pub largest: Extreme,
+    pub smallest: Option<Extreme>,
+    pub largest: Option<Extreme>,
 }
 
 // The rate from one pair to another.
-pub fn rate_between(first: Pair, second: Pair) -> RateAnswer
+pub fn rate_between(first: Pair, second: Pair) -> Result<Rate, Refusal>
     ensures { Rates (quotient_of (paired first) (paired second)) (says_rate result) }
 {
-    match quotient_of(judge(first), judge(second)) {
-        Quotient::Of(n, d) => RateAnswer::Done(lowest(n, d)),
-        Quotient::OutOfRange => RateAnswer::Refused(Refusal::Range),
-        Quotient::NotElapsed => RateAnswer::Refused(Refusal::NotElapsed),
-        Quotient::OffGrid => RateAnswer::Refused(Refusal::OffGrid),
-    }
+    let quotient = Quotient::between(first.judged(), second.judged())?;
+    Ok(quotient.lowest())
 }
 
 // The report on a run of pairs: of each row the onboard seconds and ticks, then the ground seconds and ticks.
 pub fn report_on(run: &[[i64; 4]]) -> Report
     ensures { Reports (report_of (map pair_in run.now)) result }
 {
-    if run.len() == 0 {
-        return told(none());
-    }
-    let twos = run.len() - 1;
-    let mut tally = none();
-    let mut held = judge(pair_at(run, 0));
-    let mut i: usize = 0;
-    while i < twos {
-        let place = i;
-        i += 1;
-        let next = judge(pair_at(run, i));
-        tally = noted(tally, place, quotient_of(held, next));
+    let mut tally = Tally::default();
+    let Some((first, rest)) = run.split_first() else {
+        return tally.report();
+    };
+    let mut held = Pair::from(*first).judged();
+    for (place, row) in rest.iter().enumerate() {
+        let next = Pair::from(*row).judged();
+        tally.note(place, Quotient::between(held, next));
         held = next;
     }
-    told(tally)
+    tally.report()
 }
 
-fn pair_at(run: &[[i64; 4]], i: usize) -> Pair
-    requires { i < length run.now }
-    ensures { paired result ≡ pair_in (get_or run.now i []) }
+impl From<[i64; 4]> for Pair {
+    ghost from_gives = { λ row pair. paired pair ≡ pair_in row };
+
+    fn from(row: [i64; 4]) -> Pair {
+        let [onboard_sec, onboard_ticks, ground_sec, ground_ticks] = row;
+        Pair {
+            onboard: Record {
+                sec: onboard_sec,
+                ticks: base::unsigned(onboard_ticks),
+            },
+            ground: Record {
+                sec: ground_sec,
+                ticks: base::unsigned(ground_ticks),
+            },
+        }
+    }
+}
+
+impl Pair {
+    ghost use Rattle.scale.specs.Time.{is_record};
+    ghost use Rattle.drift.specs.Inner.{of_both, Judges};
+
+    // Both records at once, with `&`: a branch between them is slower.
+    fn valid(self) -> bool
+        ensures { result ≡ of_both is_record (paired self) }
+    {
+        self.onboard.valid() & self.ground.valid()
+    }
+
+    fn on_grid(self) -> bool
+        ensures { result ≡ of_both on_grid (paired self) }
+    {
+        on_grid(self.onboard) & on_grid(self.ground)
+    }
+
+    fn judged(self) -> Judged
+        ensures { Judges (paired self) result }
+    {
+        if !self.valid() {
+            return None;
+        }
+        if !self.on_grid() {
+            return Some(None);
+        }
+        Some(Some(Marks {
+            onboard: Mark::of(self.onboard),
+            ground: Mark::of(self.ground),
+        }))
+    }
+}
+
+fn on_grid(r: Record) -> bool
+    ensures { result ≡ on_grid (recorded r) }
 {
-    let row = run[i];
-    let onboard = Record {
-        sec: row[0],
-        ticks: base::unsigned(row[1]),
-    };
-    let ground = Record {
-        sec: row[2],
-        ticks: base::unsigned(row[3]),
-    };
-    Pair {
-        onboard: onboard,
-        ground: ground,
+    r.ticks % STEP_TICKS == 0
+}
+
+// Why two pairs have no rate: document 01's refusal, and the two that document 02 adds. An enum of its own, so that the
+// tally has a case for each and no other.
+#[derive(Clone, Copy)]
+enum NoRate {
+    OutOfRange,
+    NotElapsed,
+    OffGrid,
+}
+
+impl From<NoRate> for Refusal {
+    ghost use Rattle.base.specs.Refusals.{number};
+    ghost use Rattle.drift.specs.Inner.{number_for};
+
+    ghost from_gives = { λ why refusal. number refusal ≡ number_for why };
+
+    fn from(why: NoRate) -> Refusal {
+        match why {
+            NoRate::OutOfRange => Refusal::Range,
+            NoRate::NotElapsed => Refusal::NotElapsed,
+            NoRate::OffGrid => Refusal::OffGrid,
+        }
     }
 }
 
 // What a run has come to so far. Its extremes are lowered only when they are told.
-#[derive(Clone, Copy)]
+#[derive(Clone, Copy, Default)]
 struct Tally {
     rates: usize,
     range: usize,
     not_elapsed: usize,
     off_grid: usize,
-    smallest: Best,
-    largest: Best,
+    smallest: Option<Best>,
+    largest: Option<Best>,
 }
 
+// As Extreme, which is public, with its rate as it is compared.
 #[derive(Clone, Copy)]
-enum Best {
-    Nothing,
-    At(usize, Mixed),
+struct Best {
+    place: usize,
+    rate: Mixed,
 }
 
-fn none() -> Tally
-    ensures { Notes none_of result }
-{
-    Tally {
-        rates: 0,
-        range: 0,
-        not_elapsed: 0,
-        off_grid: 0,
-        smallest: Best::Nothing,
-        largest: Best::Nothing,
-    }
-}
+impl Tally {
+    ghost use Rattle.drift.specs.Inner.{counted, says_tally, noted_of, says_quotient};
 
-// A tally with one two more, at a place.
-fn noted(t: Tally, place: usize, q: Quotient) -> Tally
-    requires { Keeps place t q }
-    ensures { Notes (noted_of (says_tally t) place (says_quotient q)) result }
-{
-    let mut next = t;
-    match q {
-        Quotient::Of(n, d) => with_rate(t, place, parted(n, d)),
-        Quotient::OutOfRange => {
-            next.range += 1;
-            next
-        }
-        Quotient::NotElapsed => {
-            next.not_elapsed += 1;
-            next
-        }
-        Quotient::OffGrid => {
-            next.off_grid += 1;
-            next
-        }
-    }
-}
-
-fn with_rate(t: Tally, place: usize, m: Mixed) -> Tally
-    requires { Room place t × Parted m }
-    ensures { Notes (noted_of (says_tally t) place (done (ratio_of m))) result }
-{
-    let smallest = t.smallest;
-    let largest = t.largest;
-    let low = better(smallest, place, m, true);
-    let high = better(largest, place, m, false);
-    Tally {
-        rates: t.rates + 1,
-        range: t.range,
-        not_elapsed: t.not_elapsed,
-        off_grid: t.off_grid,
-        smallest: low,
-        largest: high,
-    }
-}
-
-// The best so far, or a rate at a place that beats it.
-fn better(best: Best, place: usize, m: Mixed, smaller: bool) -> Best
-    requires { Sound best × Parted m }
-    ensures { (says_best result ≡ kept (beats_by smaller) (says_best best) place (done (ratio_of m))) × Sound result }
-{
-    match best {
-        Best::Nothing => Best::At(place, m),
-        Best::At(p, b) => {
-            if beats(m, b, smaller) {
-                return Best::At(place, m);
+    // With one two more, at a place.
+    fn note(&mut self, place: usize, two: Result<Quotient, NoRate>)
+        requires { counted self.old + 1 < 2 ^ 64 }
+        ensures one_more { counted self.new ≡ counted self.old + 1 }
+        ensures noted { says_tally self.new ≡ noted_of (says_tally self.old) place (says_quotient two) }
+    {
+        match two {
+            Ok(quotient) => {
+                self.rates += 1;
+                let rate = Mixed::from(quotient);
+                let found = Some(Best { place, rate });
+                if self.smallest.is_none_or(|best| rate.before(best.rate)) {
+                    self.smallest = found;
+                }
+                if self.largest.is_none_or(|best| best.rate.before(rate)) {
+                    self.largest = found;
+                }
             }
-            Best::At(p, b)
+            Err(NoRate::OutOfRange) => self.range += 1,
+            Err(NoRate::NotElapsed) => self.not_elapsed += 1,
+            Err(NoRate::OffGrid) => self.off_grid += 1,
+        }
+    }
+
+    fn report(self) -> Report
+        ensures { Reports (says_tally self) result }
+    {
+        Report {
+            rates: self.rates,
+            range: self.range,
+            not_elapsed: self.not_elapsed,
+            off_grid: self.off_grid,
+            smallest: self.smallest.map(|best| best.told()),
+            largest: self.largest.map(|best| best.told()),
         }
     }
 }
 
-fn beats(a: Mixed, b: Mixed, smaller: bool) -> bool
-    requires { Parted a × Parted b }
-    ensures { result ≡ beats_by smaller (ratio_of a) (ratio_of b) }
-{
-    if smaller {
-        return before(a, b);
-    }
-    before(b, a)
-}
+impl Best {
+    ghost use Rattle.drift.specs.Inner.{quotient_as};
 
-fn told(t: Tally) -> Report
-    requires { Sound t.smallest × Sound t.largest }
-    ensures { Reports (says_tally t) result }
-{
-    let low = t.smallest;
-    let high = t.largest;
-    let smallest = shown(low);
-    let largest = shown(high);
-    Report {
-        rates: t.rates,
-        range: t.range,
-        not_elapsed: t.not_elapsed,
-        off_grid: t.off_grid,
-        smallest: smallest,
-        largest: largest,
-    }
-}
-
-fn shown(best: Best) -> Extreme
-    requires { Sound best }
-    ensures { Shows (says_best best) (says_extreme result) }
-{
-    match best {
-        Best::Nothing => Extreme::Nothing,
-        Best::At(place, m) => Extreme::At(place, lowest(m.onboard, m.ground)),
+    fn told(self) -> Extreme
+        ensures place { result.place ≡ self.place }
+        ensures rate { Lowest (quotient_as self.rate.quotient) (fraction result.rate) }
+    {
+        Extreme {
+            place: self.place,
+            rate: self.rate.quotient.lowest(),
+        }
     }
 }
 
 // The grid of 2^-24 s: its steps in a second, and the ticks of a step.
-const STEPS: u64 = 16_777_216;
+const STEPS: u64 = 1 << 24;
 
 const STEP_TICKS: u64 = Record::TICKS / STEPS;
 
 // An elapsed time is less than LIMIT seconds in size, and so at most MOST steps. It is held raised by MOST, and never negative.
-const LIMIT: u64 = 4_294_967_296;
+const LIMIT: u64 = 1 << 32;
 
 const MOST: u64 = LIMIT * STEPS - 1;
 
@@ -275,245 +239,189 @@ const MOST: u64 = LIMIT * STEPS - 1;
 struct Mark {
     sec: u64,
     steps: u64,
+    ghost low: { 2 ^ 63 ≤ sec + 2 ^ 41 },
+    ghost high: { sec < 2 ^ 63 + 2 ^ 41 },
+    ghost few: { steps < 2 ^ 24 },
 }
 
-// A pair: whether both are records, whether both are on the grid, and where they stand.
+impl Mark {
+    ghost use Rattle.std.specs.Prelude.{true};
+    ghost use Rattle.scale.specs.Time.{is_record};
+    ghost use Rattle.drift.specs.Inner.{Marked, apart, Elapses};
+
+    fn of(r: Record) -> Mark
+        requires { is_record (recorded r) ≡ true }
+        ensures { Marked (recorded r) result }
+    {
+        Mark {
+            sec: r.raised(),
+            steps: r.ticks / STEP_TICKS,
+        }
+    }
+
+    // The steps from here to another mark, where they are less than 2^32 s: raised by MOST.
+    #[tactic(auto, using(crate::proofs::Apart::too_early, crate::proofs::Apart::too_late))]
+    fn steps_to(self, to: Mark) -> Option<u64>
+        ensures { Elapses (apart self to) result }
+    {
+        // seconds, raised by LIMIT
+        let sec = (to.sec + LIMIT).checked_sub(self.sec)?;
+        if 2 * LIMIT < sec {
+            return None;
+        }
+        // steps, raised by MOST
+        let steps = (sec * STEPS + to.steps).checked_sub(self.steps + 1)?;
+        if 2 * MOST < steps {
+            return None;
+        }
+        Some(steps)
+    }
+}
+
+// Where a pair of records stands that is on the grid.
 #[derive(Clone, Copy)]
-struct Judged {
-    valid: bool,
-    gridded: bool,
+struct Marks {
     onboard: Mark,
     ground: Mark,
 }
 
-fn judge(p: Pair) -> Judged
-    ensures { Judges (paired p) result }
-{
-    let onboard = p.onboard;
-    let ground = p.ground;
-    let valid = onboard.valid() & ground.valid();
-    let gridded = on_grid(onboard) & on_grid(ground);
-    let x = marked(onboard);
-    let y = marked(ground);
-    Judged {
-        valid: valid,
-        gridded: gridded,
-        onboard: x,
-        ground: y,
+// A pair: None where a record is invalid, and Some(None) where one is off the grid. Options, so that `zip` judges two pairs
+// in the order of the refusals: an invalid record of either before one that is off the grid.
+type Judged = Option<Option<Marks>>;
+
+impl Marks {
+    ghost use Rattle.drift.specs.Steps.{rated};
+    ghost use Rattle.drift.specs.Inner.{apart, says_quotient};
+
+    #[tactic(auto, using(crate::proofs::Quotients::no_onboard, crate::proofs::Quotients::no_ground))]
+    fn quotient_to(self, to: Marks) -> Result<Quotient, NoRate>
+        ensures { says_quotient result ≡ rated (apart self.onboard to.onboard) (apart self.ground to.ground) }
+    {
+        let onboard = self.onboard.steps_to(to.onboard).ok_or(NoRate::OutOfRange)?;
+        let ground = self.ground.steps_to(to.ground).ok_or(NoRate::OutOfRange)?;
+        // zero or negative, raised
+        if ground <= MOST {
+            return Err(NoRate::NotElapsed);
+        }
+        Ok(Quotient {
+            num: onboard,
+            den: ground - MOST,
+        })
     }
 }
 
-fn on_grid(r: Record) -> bool
-    ensures { result ≡ on_grid (recorded r) }
-{
-    let ticks = r.ticks;
-    ticks % STEP_TICKS == 0
-}
-
-fn marked(r: Record) -> Mark
-    ensures { Marks (recorded r) result }
-{
-    let ticks = r.ticks;
-    Mark {
-        sec: r.raised(),
-        steps: ticks / STEP_TICKS,
-    }
-}
-
-// The quotient of two elapsed times, in steps: onboard, raised by MOST, over ground; or why there is none.
+// The quotient of two elapsed times in steps: onboard, raised by MOST, over ground.
 #[derive(Clone, Copy)]
-enum Quotient {
-    Of(u64, u64),
-    OutOfRange,
-    NotElapsed,
-    OffGrid,
+struct Quotient {
+    num: u64,
+    den: u64,
+    ghost few: { num ≤ 2 * most },
+    ghost some: { 0 < den },
 }
 
-fn quotient_of(a: Judged, b: Judged) -> Quotient
-    requires { Fit a × Fit b }
-    ensures { Quotes (quotient_in a b) result }
-{
-    if !(a.valid & b.valid) {
-        return Quotient::OutOfRange;
-    }
-    if !(a.gridded & b.gridded) {
-        return Quotient::OffGrid;
-    }
-    let onboard_from = a.onboard;
-    let onboard_to = b.onboard;
-    let ground_from = a.ground;
-    let ground_to = b.ground;
-    let onboard = elapsed(onboard_from, onboard_to);
-    let ground = elapsed(ground_from, ground_to);
-    over(onboard, ground)
-}
+impl Quotient {
+    ghost use Rattle.drift.specs.Rate as P;
+    ghost use Rattle.drift.specs.Inner.{Judges, says_quotient, quotient_as};
 
-fn over(onboard: Seat, ground: Seat) -> Quotient
-    requires { Few onboard }
-    ensures { Quotes (over_of onboard ground) result }
-{
-    match onboard {
-        Seat::Out => Quotient::OutOfRange,
-        Seat::In(n) => match ground {
-            Seat::Out => Quotient::OutOfRange,
-            Seat::In(d) => {
-                // zero or negative, raised
-                if d <= MOST {
-                    return Quotient::NotElapsed;
-                }
-                Quotient::Of(n, d - MOST)
-            }
-        },
+    // Of two judged pairs: an invalid record of either comes before one off the grid.
+    fn between(first: Judged, second: Judged) -> Result<Quotient, NoRate>
+        ensures { (p q : P.Pair) → Judges p first → Judges q second → says_quotient result ≡ quotient_of p q }
+    {
+        let (first, second) = first.zip(second).ok_or(NoRate::OutOfRange)?;
+        let (from, to) = first.zip(second).ok_or(NoRate::OffGrid)?;
+        from.quotient_to(to)
     }
-}
 
-// The steps from x to y, where they are less than 2^32 s: raised by MOST.
-fn elapsed(x: Mark, y: Mark) -> Seat
-    requires { Narrow x × Narrow y }
-    ensures { result ≡ seat_of least (pos most) (apart x y) }
-{
-    // seconds, raised by LIMIT
-    let from = x.sec;
-    let to = y.sec + LIMIT;
-    if to < from {
-        return Seat::Out;
+    // In lowest terms.
+    fn lowest(self) -> Rate
+        ensures { Lowest (quotient_as self) (fraction result) }
+    {
+        let size = self.num.abs_diff(MOST);
+        let divisor = gcd(size, self.den);
+        let num = (size / divisor) as i64;
+        Rate {
+            num: if self.num < MOST { -num } else { num },
+            den: self.den / divisor,
+        }
     }
-    if 2 * LIMIT < to - from {
-        return Seat::Out;
-    }
-    // steps, raised by MOST + 1
-    let less = x.steps;
-    let more = (to - from) * STEPS + y.steps;
-    if more <= less {
-        return Seat::Out;
-    }
-    if 2 * MOST + 2 <= more - less {
-        return Seat::Out;
-    }
-    Seat::In(more - less - 1)
 }
 
 // A quotient with its whole part, taken downward and raised by MOST, and what is left of the onboard steps above that.
 #[derive(Clone, Copy)]
 struct Mixed {
-    onboard: u64,
-    ground: u64,
+    quotient: Quotient,
     whole: u64,
     rest: u64,
+    ghost left: { rest < quotient.den },
+    ghost exact: { quotient.num + most * quotient.den ≡ whole * quotient.den + rest + most },
 }
 
-fn parted(onboard: u64, ground: u64) -> Mixed
-    requires { Ratio onboard ground }
-    ensures { Parts onboard ground result }
-{
-    if onboard < MOST {
-        // -(n + 1) over ground goes down to -(n / ground) - 1
-        let n = MOST - 1 - onboard;
-        let whole = MOST - 1 - n / ground;
-        let rest = ground - 1 - n % ground;
-        return Mixed {
-            onboard: onboard,
-            ground: ground,
-            whole: whole,
-            rest: rest,
-        };
-    }
-    let n = onboard - MOST;
-    let whole = MOST + n / ground;
-    let rest = n % ground;
-    Mixed {
-        onboard: onboard,
-        ground: ground,
-        whole: whole,
-        rest: rest,
+impl From<Quotient> for Mixed {
+    ghost from_gives = { λ quotient mixed. mixed.quotient ≡ quotient };
+
+    fn from(quotient: Quotient) -> Mixed {
+        let ground = quotient.den;
+        if quotient.num < MOST {
+            // -(n + 1) over ground goes down to -(n / ground) - 1
+            let n = MOST - 1 - quotient.num;
+            let whole = MOST - 1 - n / ground;
+            return Mixed {
+                quotient,
+                whole,
+                rest: ground - 1 - n % ground,
+            };
+        }
+        let n = quotient.num - MOST;
+        Mixed {
+            quotient,
+            whole: MOST + n / ground,
+            rest: n % ground,
+        }
     }
 }
 
-// Whether a is less than b: by their whole parts, then by what is left, which needs no division over one denominator.
-fn before(a: Mixed, b: Mixed) -> bool
-    requires { Parted a × Parted b }
-    ensures { result ≡ below (ratio_of a) (ratio_of b) }
-{
-    let x = a.whole;
-    let y = b.whole;
-    if x < y {
-        return true;
+impl Mixed {
+    ghost use Rattle.drift.specs.Fraction.{below};
+    ghost use Rattle.drift.specs.Inner.{quotient_as};
+
+    // Whether this is less than another: by their whole parts, then by what is left, which needs no division over one denominator.
+    // No Ord: it asks for equality as well, which takes another such recursion, and nothing here asks that.
+    #[tactic(auto, using(crate::proofs::Wholes::wholes, crate::proofs::Wholes::evens, crate::proofs::Wholes::rests))]
+    fn before(self, other: Mixed) -> bool
+        ensures { result ≡ below (quotient_as self.quotient) (quotient_as other.quotient) }
+    {
+        if self.whole != other.whole {
+            return self.whole < other.whole;
+        }
+        let mine = self.quotient.den;
+        let yours = other.quotient.den;
+        if mine == yours {
+            return self.rest < other.rest;
+        }
+        less(self.rest, mine, other.rest, yours)
     }
-    if y < x {
-        return false;
-    }
-    let p = a.rest;
-    let q = b.rest;
-    if a.ground == b.ground {
-        return p < q;
-    }
-    less(p, a.ground, q, b.ground)
 }
 
 // Whether an/ad is less than bn/bd: by the whole parts of both turned over, then by the remainders.
+#[tactic(auto, using(crate::proofs::Turned::turned, crate::proofs::Turned::turned_rest))]
 fn less(an: u64, ad: u64, bn: u64, bd: u64) -> bool
     requires { 0 < ad }
     ensures { result ≡ ltb (an * bd) (bn * ad) }
 {
-    if bn == 0 {
-        return false;
-    }
-    if an == 0 {
-        return true;
+    if an == 0 || bn == 0 {
+        return an < bn;
     }
     let wa = ad / an;
     let wb = bd / bn;
-    if wb < wa {
-        return true;
-    }
-    if wa < wb {
-        return false;
+    if wa != wb {
+        return wb < wa;
     }
     less(bd % bn, bn, ad % an, an)
 }
 
-// A quotient in lowest terms.
-fn lowest(onboard: u64, ground: u64) -> Rate
-    requires { Ratio onboard ground }
-    ensures { Lowest (ratio onboard ground) (fraction result) }
-{
-    let g = gcd(size(onboard), ground);
-    let num = shrunk(onboard, g);
-    Rate {
-        num: num,
-        den: ground / g,
-    }
-}
-
-// Onboard steps without their sign.
-fn size(onboard: u64) -> u64
-    ensures { result ≡ nat_abs (lowered_by most onboard) }
-{
-    if onboard < MOST {
-        MOST - onboard
-    } else {
-        onboard - MOST
-    }
-}
-
-// Onboard steps over a number that divides them.
-fn shrunk(onboard: u64, g: u64) -> i64
-    requires { (onboard ≤ 2 * most) × (0 < g) × (g ∣ nat_abs (lowered_by most onboard)) }
-    ensures { result *ℤ pos g ≡ lowered_by most onboard }
-{
-    let zero = base::raised(0);
-    if onboard < MOST {
-        let part = (MOST - onboard) / g;
-        base::lowered(zero - part)
-    } else {
-        let part = (onboard - MOST) / g;
-        base::lowered(zero + part)
-    }
-}
-
 // The greatest number that divides both: that of the second and what is left of the first.
 fn gcd(a: u64, b: u64) -> u64
-    ensures { Greatest a b result }
+    ensures { IsGcd a b result }
 {
     if b == 0 {
         return a;

@@ -11,8 +11,7 @@ use Rattle.calendar.specs.Gregorian.{is_year, year_length, month_length, is_date
 use Rattle.clock.specs.Clock.{clock_ok}
 use Rattle.field.specs.Fields.{Field, field, first_bad, or_then}
 use Rattle.field.specs.Rules.{is_month, is_day, is_day_of_year, is_hour, is_minute, is_second, date_fields, ordinal_fields, clock_fields}
-use Rattle.field.specs.declared.Place.{Place}
-use Rattle.field.specs.declared.Place.TheVariants.{At, Nowhere}
+use Rattle.std.specs.Prelude.{Option, Some, None}
 
 -- fields before others
 pub first_append : (fs gs : List Field) → first_bad (fs ++ gs) ≡ or_then (first_bad fs) (first_bad gs)
@@ -28,12 +27,16 @@ pub date_last : (y m d : ℕ) → is_year y ≡ true → is_date y m d ≡ is_da
 unfolding is_date
 date_last y m d e = rw e
 
+module _ (a b c y m d : ℕ) (e : is_year y ≡ true) (f : is_month m ≡ true) where
+  pub date_good : is_date y m d ≡ true → None ≡ first_bad (date_fields a b c y m d)
+  date_good g = rw (e, f, sym (date_last y m d e) ∙ g)
+
+  pub date_bad : is_date y m d ≡ false → Some c ≡ first_bad (date_fields a b c y m d)
+  date_bad g = rw (e, f, sym (date_last y m d e) ∙ g)
+
 pub ordinal_last : (y d : ℕ) → is_year y ≡ true → is_ordinal y d ≡ is_day_of_year y d
 unfolding is_ordinal
 ordinal_last y d e = rw e
-
-pub clock_last : (h m s : ℕ) → is_hour h ≡ true → is_minute m ≡ true → clock_ok h m s ≡ is_second h m s
-clock_last h m s e f = rw (e, f)
 
 -- a month that there is not has no day
 no_days : (y m : ℕ) → is_month m ≡ false → month_length y m ≡ 0
@@ -67,17 +70,17 @@ ordinal_all y d = go (is_year y)
     go false = refl
 
 -- ---- whether there is a bad field
-abbrev pub is_nowhere : Place → Bool
-is_nowhere (At n) = false
-is_nowhere Nowhere = true
+abbrev pub is_nowhere : Option ℕ → Bool
+is_nowhere (Some n) = false
+is_nowhere None = true
 
-pub nowhere_is : (p : Place) → is_nowhere p ≡ true → p ≡ Nowhere
-nowhere_is (At n) e = absurd (false≢true e)
-nowhere_is Nowhere e = refl
+pub nowhere_is : (p : Option ℕ) → is_nowhere p ≡ true → p ≡ None
+nowhere_is (Some n) e = absurd (false≢true e)
+nowhere_is None e = refl
 
-pub somewhere_is : (p : Place) → is_nowhere p ≡ false → (n : ℕ) × (p ≡ At n)
-somewhere_is (At n) e = (n, refl)
-somewhere_is Nowhere e = absurd (false≢true (sym e))
+pub somewhere_is : (p : Option ℕ) → is_nowhere p ≡ false → (n : ℕ) × (p ≡ Some n)
+somewhere_is (Some n) e = (n, refl)
+somewhere_is None e = absurd (false≢true (sym e))
 
 pub none_field : (a : ℕ) (x : Bool) (fs : List Field) → is_nowhere (first_bad (field a x ∷ fs)) ≡ x && is_nowhere (first_bad fs)
 none_field a true fs = refl
@@ -104,6 +107,6 @@ ordinal_none a b y d = two_none a b (is_year y) (is_day_of_year y d) ∙ ordinal
 pub clock_none : (a b c h m s : ℕ) → is_nowhere (first_bad (clock_fields a b c h m s)) ≡ clock_ok h m s
 clock_none a b c h m s = three_none a b c (is_hour h) (is_minute m) (is_second h m s)
 
-pub none_then : (p q : Place) → is_nowhere (or_then p q) ≡ is_nowhere p && is_nowhere q
-none_then (At n) q = refl
-none_then Nowhere q = refl
+pub none_then : (p q : Option ℕ) → is_nowhere (or_then p q) ≡ is_nowhere p && is_nowhere q
+none_then (Some n) q = refl
+none_then None q = refl

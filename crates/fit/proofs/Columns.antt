@@ -3,36 +3,19 @@ use mathlib.Core.Path.{◌≡◌, refl, sym, ap, ◌∙◌}
 use mathlib.Core.Logic.{◌⊎◌, inl, inr}
 use mathlib.Core.Bool.{Bool, true, false, cond}
 use mathlib.Core.List.{[], ◌∷◌}
-use Prim.Native.Nat.{ℕ, ◌<◌, ◌≤◌}
+use Prim.Native.Nat.{ℕ, ◌<◌}
 use native.Mathlib.Omega.{arith}
-use borrow.Author.Tests.{eqb-true, ne_eqb, ltb-true, le-leb, lt-leb}
-use lib.Dec.{eqb, leb}
-use Rattle.base.proofs.Bools.{and_true, and_no, and_false, cond_yes, cond_no}
+use borrow.Author.Tests.{eqb-true, ne_eqb, ltb-true}
+use lib.Dec.{eqb}
+use Rattle.base.proofs.Bools.{and_true, cond_yes, cond_no}
 use Rattle.octets.specs.Places.{digit_good}
 use Rattle.shape.specs.Shapes.{kind_of, Shapes}
-use Rattle.shape.proofs.Tests.{yes_both}
 use Rattle.shape.proofs.Shapes.{kind_digit, kind_other}
 use Rattle.shape.proofs.Starts.{after}
 use Rattle.fit.specs.Inner.{column_of, letter, plain, plains}
 
 digit : (b : ℕ) → digit_good b ≡ true → column_of b ≡ 0
 digit b e = cond_yes _ _ e
-
--- as the code tells them apart
-abbrev pub Apart : ℕ → Type 0
-Apart b = ((((Unit {0} × (b ≡ 45 → ⊥)) × (b ≡ 84 → ⊥)) × (b ≡ 58 → ⊥)) × (b ≡ 46 → ⊥)) × (b ≡ 90 → ⊥)
-
-other : (b : ℕ) → digit_good b ≡ false → Apart b → column_of b ≡ 6
-other b e (((((_, m), t), c), p), z) = rw (e, ne_eqb b 45 m, ne_eqb b 84 t, ne_eqb b 58 c, ne_eqb b 46 p, ne_eqb b 90 z)
-
-pub in_digits : (b : ℕ) → 48 ≤ b → b < 58 → column_of b ≡ 0
-in_digits b h l = digit b (yes_both (le-leb 48 b h) (le-leb b 57 (omega arith)))
-
-pub below_digits : (b : ℕ) → b < 48 → Apart b → column_of b ≡ 6
-below_digits b h n = other b (and_no (leb b 57) (lt-leb 48 b h)) n
-
-pub above_digits : (b : ℕ) → 58 ≤ b → Apart b → column_of b ≡ 6
-above_digits b h n = other b (and_false (leb 48 b) (leb b 57) (lt-leb b 57 (omega arith))) n
 
 -- what stands for a character in a shape is its column's, or it is of the last
 abbrev Stands : ℕ → ℕ → Type 0
@@ -54,6 +37,18 @@ stands b =
     next : {r : ℕ} (t : Bool) (x k : ℕ) → eqb b x ≡ t → kind_of x ≡ x → letter k ≡ x → Stands b r → Stands b (cond t k r)
     next true x k e f g h = inl (ap kind_of (eqb-true b x e) ∙ f ∙ sym g)
     next false x k e f g h = h
+
+pub column_low : (b : ℕ) → column_of b < 7
+column_low b = go (digit_good b) (eqb b 45) (eqb b 84) (eqb b 58) (eqb b 46) (eqb b 90)
+  where
+    go : (d m t c p z : Bool) → cond d 0 (cond m 1 (cond t 2 (cond c 3 (cond p 4 (cond z 5 6))))) < 7
+    go true m t c p z = omega arith
+    go false true t c p z = omega arith
+    go false false true c p z = omega arith
+    go false false false true p z = omega arith
+    go false false false false true z = omega arith
+    go false false false false false true = omega arith
+    go false false false false false false = omega arith
 
 column_kind : (b : ℕ) → column_of (kind_of b) ≡ column_of b
 column_kind b = go (digit_good b) refl

@@ -7,7 +7,7 @@ use Rattle.shape.specs.Shapes.{shape_of, shaped, begins, along}
 use Rattle.ascii.specs.Shapes.{code_shapes}
 use Rattle.tag.specs.Forms.{days, months, hours, minutes, tag_shapes}
 use Rattle.fit.specs.Fit.{fit_of}
-use Rattle.fit.specs.declared.Fit.TheVariants.{Right, Wrong}
+use Rattle.std.specs.Prelude.{Ok, Err}
 
 -- ---- codes: only their shape counts, so month 13, hour 24 and second 61 pass; z is no Z
 codes : List (List ℕ)
@@ -19,7 +19,7 @@ codes =
     bytes "2016-12-31T23:59:59z" ∷
     bytes "0000-13-32T24:60:61" ∷ []
 
-codes_fit : map (fit_of code_shapes) codes ≡ Wrong 16 ∷ Wrong 16 ∷ Wrong 32 ∷ Wrong 0 ∷ Wrong 19 ∷ Right ∷ []
+codes_fit : map (fit_of code_shapes) codes ≡ Err 16 ∷ Err 16 ∷ Err 32 ∷ Err 0 ∷ Err 19 ∷ (Ok tt) ∷ []
 unfolding codes fit_of shaped along begins shape_of code_shapes
 codes_fit = refl
 
@@ -33,7 +33,7 @@ joined =
     bytes "2016-12-31T" ∷
     bytes "2016-12-31T10.5" ∷ []
 
-joined_fit : map (fit_of tag_shapes) joined ≡ Wrong 3 ∷ Wrong 5 ∷ Wrong 4 ∷ Wrong 7 ∷ Wrong 11 ∷ Wrong 13 ∷ []
+joined_fit : map (fit_of tag_shapes) joined ≡ Err 3 ∷ Err 5 ∷ Err 4 ∷ Err 7 ∷ Err 11 ∷ Err 13 ∷ []
 unfolding joined fit_of shaped along begins shape_of tag_shapes days months hours minutes
 joined_fit = refl
 
@@ -49,7 +49,7 @@ calendars =
     bytes "1234Z" ∷
     bytes "-13" ∷ []
 
-calendars_fit : map (fit_of tag_shapes) calendars ≡ Wrong 8 ∷ Wrong 10 ∷ Wrong 2 ∷ Wrong 2 ∷ Wrong 3 ∷ Wrong 3 ∷ Wrong 4 ∷ Right ∷ []
+calendars_fit : map (fit_of tag_shapes) calendars ≡ Err 8 ∷ Err 10 ∷ Err 2 ∷ Err 2 ∷ Err 3 ∷ Err 3 ∷ Err 4 ∷ (Ok tt) ∷ []
 unfolding calendars fit_of shaped along begins shape_of tag_shapes days months hours minutes
 calendars_fit = refl
 
@@ -57,6 +57,6 @@ calendars_fit = refl
 times : List (List ℕ)
 times = bytes "12:" ∷ bytes "::." ∷ bytes "::.Z" ∷ bytes "::.1234567890123" ∷ bytes "::61" ∷ []
 
-times_fit : map (fit_of tag_shapes) times ≡ Wrong 3 ∷ Wrong 3 ∷ Wrong 3 ∷ Wrong 15 ∷ Right ∷ []
+times_fit : map (fit_of tag_shapes) times ≡ Err 3 ∷ Err 3 ∷ Err 3 ∷ Err 15 ∷ (Ok tt) ∷ []
 unfolding times fit_of shaped along begins shape_of tag_shapes days months hours minutes
 times_fit = refl

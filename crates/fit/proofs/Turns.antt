@@ -13,8 +13,7 @@ use Rattle.base.proofs.Bools.{by_two}
 use Rattle.shape.specs.Shapes.{kind_of, shape_of, Shapes, same, shaped, along}
 use Rattle.shape.proofs.Starts.{after, none, along_step}
 use Rattle.fit.specs.Fit.{fit_of}
-use Rattle.fit.specs.declared.Fit.{Fit}
-use Rattle.fit.specs.declared.Fit.TheVariants.{Right, Wrong}
+use Rattle.std.specs.Prelude.{Result, Ok, Err}
 
 eqb_turned : (a b : ℕ) → eqb a b ≡ eqb b a
 eqb_turned a b =
@@ -34,8 +33,8 @@ shaped_after ((x ∷ p) ∷ ps) b s =
     go false h = h
 
 -- the verdict on a text of which n characters went before
-pub onward : ℕ → Shapes → List ℕ → Fit
-onward n ps s = cond (shaped ps s) Right (Wrong (n + along ps s))
+pub onward : ℕ → Shapes → List ℕ → Result Unit ℕ
+onward n ps s = cond (shaped ps s) (Ok tt) (Err (n + along ps s))
 
 pub onward_start : (ps : Shapes) (s : List ℕ) → onward 0 ps s ≡ fit_of ps s
 unfolding onward fit_of
@@ -43,7 +42,7 @@ onward_start ps s = rw zero-add
 
 module _ (s : List ℕ) (i : ℕ) (ps : Shapes) where
   -- no shape goes on so
-  pub stops : i < length s → after (kind_of (get_or s i 0)) ps ≡ [] → Wrong i ≡ onward i ps (drop i s)
+  pub stops : i < length s → after (kind_of (get_or s i 0)) ps ≡ [] → Err i ≡ onward i ps (drop i s)
   unfolding onward shaped
   stops h e = rw (drop-cons s i 0, shaped_after, along_step, e, add-zero)
 
@@ -53,6 +52,6 @@ module _ (s : List ℕ) (i : ℕ) (ps : Shapes) where
   turns qs h e z = rw (add-one, drop-cons s i 0, shaped_after, along_step, e, z, add-suc, suc-add)
 
   -- the text is at its end
-  pub ends : length s ≤ i → cond (shaped ps []) Right (Wrong i) ≡ onward i ps (drop i s)
+  pub ends : length s ≤ i → cond (shaped ps []) (Ok tt) (Err i) ≡ onward i ps (drop i s)
   unfolding onward along
   ends h = rw (drop_of_length-le s h, add-zero)

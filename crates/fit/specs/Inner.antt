@@ -1,5 +1,5 @@
 -- What the private functions ask and answer: the table by which the permitted shapes are followed, a character at a time. No promise cites these.
-use Rattle.std.specs.Prelude.{Bool, true, false, cond, not, ◌&&◌, ◌||◌, List, [], ◌∷◌, ℕ, ◌-◌, eqb, ltb, get_or, take}
+use Rattle.std.specs.Prelude.{Bool, true, false, cond, not, ◌&&◌, ◌||◌, List, [], ◌∷◌, ℕ, ◌-◌, eqb, ltb, get_or, take, Option, Some, None}
 use Rattle.octets.specs.Places.{digit_good}
 use Rattle.shape.specs.Quoted.{bytes}
 use Rattle.shape.specs.Shapes.{Shapes, same, shaped}
@@ -7,6 +7,7 @@ use Rattle.shape.proofs.Tests.{passes, down_to}
 use Rattle.shape.proofs.Starts.{after, none}
 use Rattle.ascii.specs.Shapes.{code_shapes}
 use Rattle.tag.specs.Forms.{tag_shapes}
+use Rattle.fit.specs.declared.State.{State}
 
 -- ---- columns
 -- the column of a character: a digit, one of - T : . Z, or any other
@@ -56,11 +57,15 @@ unfoldable pub live : ℕ → Shapes
 live q = behind (permitted q) (start_of q)
 
 -- ---- the table
-abbrev pub Table : Type 0
-Table = List (List ℕ)
+abbrev pub nexts : State → List (Option ℕ)
+nexts t = t.0 ∷ t.1 ∷ t.2 ∷ t.3 ∷ t.4 ∷ t.5 ∷ []
 
-abbrev pub cell : Table → ℕ → ℕ → ℕ
-cell t q k = get_or (get_or t q []) k 0
+-- where column k leads; the last leads nowhere
+abbrev pub next_in : State → ℕ → Option ℕ
+next_in t k = get_or (nexts t) k None
+
+abbrev pub next_of : State → ℕ → Option ℕ
+next_of t b = next_in t (column_of b)
 
 abbrev pub sames : Shapes → Shapes → Bool
 sames [] [] = true
@@ -72,20 +77,21 @@ abbrev pub agree : Bool → Bool → Bool
 agree true b = b
 agree false b = not b
 
--- these shapes are those of the state r, and there are some; or there is none, and r is 99
-abbrev pub leads : Shapes → ℕ → Bool
-leads ps r = cond (eqb r 99) (none ps) (ltb r 71 && (not (none ps) && sames ps (live r)))
+-- these shapes are those of a next state, and there are some; or there is none, and no next state
+abbrev pub leads : Shapes → Option ℕ → Bool
+leads ps None = none ps
+leads ps (Some r) = ltb r 71 && (not (none ps) && sames ps (live r))
 
--- what row q says of these shapes: whether one ends here, and where column k leads
-abbrev pub end_right : Table → ℕ → Shapes → Bool
-end_right t q ps = agree (shaped ps []) (eqb (cell t q 7) 1)
+-- what a state says of these shapes: whether one ends here, and where column k leads
+abbrev pub end_right : State → Shapes → Bool
+end_right t ps = agree (shaped ps []) t.6
 
-abbrev pub turn_right : Table → ℕ → Shapes → ℕ → Bool
-turn_right t q ps k = leads (after (letter k) ps) (cell t q k)
+abbrev pub turn_right : State → Shapes → ℕ → Bool
+turn_right t ps k = leads (after (letter k) ps) (next_in t k)
 
-abbrev pub row_right : Table → Shapes → ℕ → Bool
-row_right t ps q = plains ps && (end_right t q ps && down_to 7 (turn_right t q ps))
+abbrev pub state_right : State → Shapes → Bool
+state_right t ps = plains ps && (end_right t ps && down_to 7 (turn_right t ps))
 
--- every row says what can follow in its state
-unfoldable pub right : Table → Bool
-right t = down_to 71 (λ q. row_right t (live q) q)
+-- row q says what can follow in its state
+unfoldable pub right : ℕ → State → Bool
+right q t = state_right t (live q)

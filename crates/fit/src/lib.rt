@@ -5,153 +5,154 @@ ghost use Rattle.std.specs.Prelude.{◌≡◌, true, ◌<◌};
 ghost use Rattle.ascii.specs.Shapes.{code_shapes};
 ghost use Rattle.tag.specs.Forms.{tag_shapes};
 ghost use Rattle.fit.specs.Fit.{fit_of};
-ghost use Rattle.fit.specs.Inner.{column_of, is_start, permitted, right};
+ghost use Rattle.fit.specs.Inner.{is_start, next_of, permitted, right};
 
-// A text of one of the shapes, or the length of its longest start that begins one.
+// A state: which one comes next after a digit, -, T, :, . and Z, where a permitted shape goes on so; and whether one may
+// end there.
 #[derive(Clone, Copy)]
-pub enum Fit {
-    Right,
-    Wrong(usize),
+struct State(
+    Option<u8>,
+    Option<u8>,
+    Option<u8>,
+    Option<u8>,
+    Option<u8>,
+    Option<u8>,
+    bool,
+);
+
+impl State {
+    fn next(self, b: u8) -> Option<u8>
+        ensures { result ≡ next_of self b }
+    {
+        let State(digit, dash, t, colon, period, z, _) = self;
+        match b {
+            b'0'..=b'9' => digit,
+            b'-' => dash,
+            b'T' => t,
+            b':' => colon,
+            b'.' => period,
+            b'Z' => z,
+            _ => None,
+        }
+    }
 }
 
-// No permitted shape goes on so.
-const NONE: u8 = 99;
-
-// The permitted shapes, followed a character at a time. A row is a state. Its columns have the next state by the character
-// that comes: a digit, one of - T : . Z, or any other; the last has 1 where a shape may end. States 0 to 33 are of a full
-// code: so many characters of 0000-00-00T00:00:00.000000000000Z, or another start that the same can follow. 34 to 67 are
-// the same of a tag; 68, 69 and 70 are the starts "-", ":" and "::" of tags.
-const NEXT: [[u8; 8]; 71] = [
-    [1, 99, 99, 99, 99, 99, 99, 0],
-    [2, 99, 99, 99, 99, 99, 99, 0],
-    [3, 99, 99, 99, 99, 99, 99, 0],
-    [4, 99, 99, 99, 99, 99, 99, 0],
-    [99, 5, 99, 99, 99, 99, 99, 0],
-    [6, 99, 99, 99, 99, 99, 99, 0],
-    [7, 99, 99, 99, 99, 99, 99, 0],
-    [10, 8, 99, 99, 99, 99, 99, 0],
-    [9, 99, 99, 99, 99, 99, 99, 0],
-    [10, 99, 99, 99, 99, 99, 99, 0],
-    [99, 99, 11, 99, 99, 99, 99, 0],
-    [12, 99, 99, 99, 99, 99, 99, 0],
-    [13, 99, 99, 99, 99, 99, 99, 0],
-    [99, 99, 99, 14, 99, 99, 99, 0],
-    [15, 99, 99, 99, 99, 99, 99, 0],
-    [16, 99, 99, 99, 99, 99, 99, 0],
-    [99, 99, 99, 17, 99, 99, 99, 0],
-    [18, 99, 99, 99, 99, 99, 99, 0],
-    [19, 99, 99, 99, 99, 99, 99, 0],
-    [99, 99, 99, 99, 20, 33, 99, 1],
-    [21, 99, 99, 99, 99, 99, 99, 0],
-    [22, 99, 99, 99, 99, 33, 99, 1],
-    [23, 99, 99, 99, 99, 33, 99, 1],
-    [24, 99, 99, 99, 99, 33, 99, 1],
-    [25, 99, 99, 99, 99, 33, 99, 1],
-    [26, 99, 99, 99, 99, 33, 99, 1],
-    [27, 99, 99, 99, 99, 33, 99, 1],
-    [28, 99, 99, 99, 99, 33, 99, 1],
-    [29, 99, 99, 99, 99, 33, 99, 1],
-    [30, 99, 99, 99, 99, 33, 99, 1],
-    [31, 99, 99, 99, 99, 33, 99, 1],
-    [32, 99, 99, 99, 99, 33, 99, 1],
-    [99, 99, 99, 99, 99, 33, 99, 1],
-    [99, 99, 99, 99, 99, 99, 99, 1],
-    [35, 68, 99, 69, 99, 99, 99, 0],
-    [36, 99, 99, 99, 99, 99, 99, 0],
-    [37, 99, 99, 48, 99, 67, 99, 1],
-    [38, 99, 99, 99, 99, 99, 99, 0],
-    [99, 39, 99, 99, 99, 99, 99, 1],
-    [40, 99, 99, 99, 99, 99, 99, 0],
-    [41, 99, 99, 99, 99, 99, 99, 0],
-    [44, 42, 99, 99, 99, 99, 99, 1],
-    [43, 99, 99, 99, 99, 99, 99, 0],
-    [44, 99, 99, 99, 99, 99, 99, 0],
-    [99, 99, 45, 99, 99, 99, 99, 1],
-    [46, 99, 99, 99, 99, 99, 99, 0],
-    [47, 99, 99, 99, 99, 99, 99, 0],
-    [99, 99, 99, 48, 99, 67, 99, 1],
-    [49, 99, 99, 99, 99, 99, 99, 0],
-    [50, 99, 99, 99, 99, 99, 99, 0],
-    [99, 99, 99, 51, 99, 67, 99, 1],
-    [52, 99, 99, 99, 99, 99, 99, 0],
-    [53, 99, 99, 99, 99, 99, 99, 0],
-    [99, 99, 99, 99, 54, 67, 99, 1],
-    [55, 99, 99, 99, 99, 99, 99, 0],
-    [56, 99, 99, 99, 99, 67, 99, 1],
-    [57, 99, 99, 99, 99, 67, 99, 1],
-    [58, 99, 99, 99, 99, 67, 99, 1],
-    [59, 99, 99, 99, 99, 67, 99, 1],
-    [60, 99, 99, 99, 99, 67, 99, 1],
-    [61, 99, 99, 99, 99, 67, 99, 1],
-    [62, 99, 99, 99, 99, 67, 99, 1],
-    [63, 99, 99, 99, 99, 67, 99, 1],
-    [64, 99, 99, 99, 99, 67, 99, 1],
-    [65, 99, 99, 99, 99, 67, 99, 1],
-    [66, 99, 99, 99, 99, 67, 99, 1],
-    [99, 99, 99, 99, 99, 67, 99, 1],
-    [99, 99, 99, 99, 99, 99, 99, 1],
-    [40, 42, 99, 99, 99, 99, 99, 0],
-    [49, 99, 99, 70, 99, 99, 99, 0],
-    [52, 99, 99, 99, 54, 99, 99, 0],
+// The permitted shapes, followed a character at a time. States 0 to 33 are of a full code: so many characters of
+// 0000-00-00T00:00:00.000000000000Z, or another start that the same can follow. 34 to 67 are the same of a tag; 68, 69 and
+// 70 are the starts "-", ":" and "::" of tags.
+static STATES: [State; 71] = [
+    State(Some(1), None, None, None, None, None, false),
+    State(Some(2), None, None, None, None, None, false),
+    State(Some(3), None, None, None, None, None, false),
+    State(Some(4), None, None, None, None, None, false),
+    State(None, Some(5), None, None, None, None, false),
+    State(Some(6), None, None, None, None, None, false),
+    State(Some(7), None, None, None, None, None, false),
+    State(Some(10), Some(8), None, None, None, None, false),
+    State(Some(9), None, None, None, None, None, false),
+    State(Some(10), None, None, None, None, None, false),
+    State(None, None, Some(11), None, None, None, false),
+    State(Some(12), None, None, None, None, None, false),
+    State(Some(13), None, None, None, None, None, false),
+    State(None, None, None, Some(14), None, None, false),
+    State(Some(15), None, None, None, None, None, false),
+    State(Some(16), None, None, None, None, None, false),
+    State(None, None, None, Some(17), None, None, false),
+    State(Some(18), None, None, None, None, None, false),
+    State(Some(19), None, None, None, None, None, false),
+    State(None, None, None, None, Some(20), Some(33), true),
+    State(Some(21), None, None, None, None, None, false),
+    State(Some(22), None, None, None, None, Some(33), true),
+    State(Some(23), None, None, None, None, Some(33), true),
+    State(Some(24), None, None, None, None, Some(33), true),
+    State(Some(25), None, None, None, None, Some(33), true),
+    State(Some(26), None, None, None, None, Some(33), true),
+    State(Some(27), None, None, None, None, Some(33), true),
+    State(Some(28), None, None, None, None, Some(33), true),
+    State(Some(29), None, None, None, None, Some(33), true),
+    State(Some(30), None, None, None, None, Some(33), true),
+    State(Some(31), None, None, None, None, Some(33), true),
+    State(Some(32), None, None, None, None, Some(33), true),
+    State(None, None, None, None, None, Some(33), true),
+    State(None, None, None, None, None, None, true),
+    State(Some(35), Some(68), None, Some(69), None, None, false),
+    State(Some(36), None, None, None, None, None, false),
+    State(Some(37), None, None, Some(48), None, Some(67), true),
+    State(Some(38), None, None, None, None, None, false),
+    State(None, Some(39), None, None, None, None, true),
+    State(Some(40), None, None, None, None, None, false),
+    State(Some(41), None, None, None, None, None, false),
+    State(Some(44), Some(42), None, None, None, None, true),
+    State(Some(43), None, None, None, None, None, false),
+    State(Some(44), None, None, None, None, None, false),
+    State(None, None, Some(45), None, None, None, true),
+    State(Some(46), None, None, None, None, None, false),
+    State(Some(47), None, None, None, None, None, false),
+    State(None, None, None, Some(48), None, Some(67), true),
+    State(Some(49), None, None, None, None, None, false),
+    State(Some(50), None, None, None, None, None, false),
+    State(None, None, None, Some(51), None, Some(67), true),
+    State(Some(52), None, None, None, None, None, false),
+    State(Some(53), None, None, None, None, None, false),
+    State(None, None, None, None, Some(54), Some(67), true),
+    State(Some(55), None, None, None, None, None, false),
+    State(Some(56), None, None, None, None, Some(67), true),
+    State(Some(57), None, None, None, None, Some(67), true),
+    State(Some(58), None, None, None, None, Some(67), true),
+    State(Some(59), None, None, None, None, Some(67), true),
+    State(Some(60), None, None, None, None, Some(67), true),
+    State(Some(61), None, None, None, None, Some(67), true),
+    State(Some(62), None, None, None, None, Some(67), true),
+    State(Some(63), None, None, None, None, Some(67), true),
+    State(Some(64), None, None, None, None, Some(67), true),
+    State(Some(65), None, None, None, None, Some(67), true),
+    State(Some(66), None, None, None, None, Some(67), true),
+    State(None, None, None, None, None, Some(67), true),
+    State(None, None, None, None, None, None, true),
+    State(Some(40), Some(42), None, None, None, None, false),
+    State(Some(49), None, None, Some(70), None, None, false),
+    State(Some(52), None, None, None, Some(54), None, false),
 ];
 
-// Whether a text has the shape of a full code.
-pub fn code_fit(s: &[u8]) -> Fit
+// Where a code begins, and where a tag does.
+const CODES: usize = 0;
+
+const TAGS: usize = 34;
+
+// Whether a text has the shape of a full code, or the length of its longest start that begins one.
+pub fn code_fit(s: &[u8]) -> Result<(), usize>
     ensures { result ≡ fit_of code_shapes s.now }
 {
-    judge(s, 0)
+    judge(s, CODES)
 }
 
-// Whether a text has the shape of a tag.
-pub fn tag_fit(s: &[u8]) -> Fit
+// The same of a tag.
+pub fn tag_fit(s: &[u8]) -> Result<(), usize>
     ensures { result ≡ fit_of tag_shapes s.now }
 {
-    judge(s, 34)
+    judge(s, TAGS)
 }
 
 // Follows a text from the state where codes begin, or from that of tags.
-fn judge(s: &[u8], start: usize) -> Fit
+#[tactic(auto, using(crate::proofs::States::begins, crate::proofs::States::stops_at, crate::proofs::States::ends_right, crate::proofs::States::ends_wrong))]
+fn judge(s: &[u8], start: usize) -> Result<(), usize>
     requires { is_start start ≡ true }
     ensures { result ≡ fit_of (permitted start) s.now }
 {
-    // in a local: the table is laid out anew at each use
-    let table = table();
-    let len = s.len();
     let mut state = start;
-    let mut i = 0;
-    while i < len {
-        let k = column(s[i]);
-        let next = table[state][k];
-        if next == NONE {
-            return Fit::Wrong(i);
-        }
-        state = next as usize;
-        i += 1;
+    for (i, &b) in s.iter().enumerate() {
+        let Some(next) = at(state).next(b) else {
+            return Err(i);
+        };
+        state = usize::from(next);
     }
-    if table[state][7] == 1 {
-        return Fit::Right;
-    }
-    Fit::Wrong(i)
+    let State(.., may_end) = at(state);
+    if may_end { Ok(()) } else { Err(s.len()) }
 }
 
-// The table, whose rows say what can follow in each state.
-fn table() -> [[u8; 8]; 71]
-    ensures { right result ≡ true }
+fn at(state: usize) -> State
+    requires { state < 71 }
+    ensures { right state result ≡ true }
 {
-    NEXT
-}
-
-// The column of a character.
-fn column(b: u8) -> usize
-    ensures { (result ≡ column_of b) × (result < 7) }
-{
-    match b {
-        b'0'..=b'9' => 0,
-        b'-' => 1,
-        b'T' => 2,
-        b':' => 3,
-        b'.' => 4,
-        b'Z' => 5,
-        _ => 6,
-    }
+    STATES[state]
 }

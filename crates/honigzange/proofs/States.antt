@@ -9,25 +9,25 @@ use lib.IntN.{ℤ, pos, negsuc}
 use lib.ListN.{length, get_or, drop, set, replicate, length-append, length-set}
 use lib.Seq.{drop-drop, drop_at, get_or_at}
 use Rattle.base.specs.Parts.{plus, minus, bits_of, signed_of}
-use Rattle.base.specs.Outcome.{Outcome, done, refused, given, cell}
+use Rattle.base.specs.Outcome.{Outcome, done, refused, cell}
 use Rattle.base.proofs.Signed.{signed_bits}
-use Rattle.base.proofs.Ladders.{never, done_is, refused_is}
-use Rattle.octets.specs.Places.{be, octets, octet_value, octet_of}
+use Rattle.base.proofs.Ladders.{never}
+use Rattle.octets.specs.Places.{be, octets, octet_value, octet_good, octet_of}
+use Rattle.octets.specs.Counts.{count_at}
+use Rattle.octets.proofs.Counts.{told, never_refused}
 use Rattle.octets.specs.Stores.{pasted, Stored}
 use Rattle.octets.proofs.Places.{length_places, number_append, number_places, octet_rule}
 use Rattle.octets.proofs.Pastes.{paste_first, paste_one, then, stored, length_pasted}
 use Rattle.leap.specs.Builtin.{builtin}
-use Rattle.pfield.specs.PField.{octet, laid}
-use Rattle.pfield.specs.declared.PField.{PField}
-use Rattle.pfield.specs.declared.Codes.TheVariants.{All}
-use Rattle.pfield.specs.declared.Layout.{Layout}
-use Rattle.receiver.specs.Receiver.{holding, made_of, Fate, feed_of, next_of}
-use Rattle.receiver.specs.Answers.{says_feed, count_of, none_by, Feeds}
+use Rattle.pfield.specs.PField.{octet}
+use Rattle.receiver.specs.Receiver.{Fate, feed_of, next_of}
+use Rattle.receiver.specs.Answers.{Feeds}
 use Rattle.receiver.specs.declared.Receiver.{Receiver}
-use Rattle.receiver.specs.declared.Fed.{Fed}
 use Rattle.receiver.proofs.Cuts.{few_left}
 use Rattle.honigzange.specs.Cells.{state_of, receiver_in}
-use Rattle.honigzange.specs.Calls.{MakeCells, FeedCells}
+use Rattle.honigzange.specs.Calls.{FeedCells}
+use Rattle.base.specs.declared.Refusal.{Refusal}
+use Rattle.std.specs.Prelude.{Result, Ok, Err}
 
 -- ---- the octets, put in one after another
 pub put_in : (p n : ℕ) (mid pending a b : List ℕ) (q : Bool) → length mid ≡ 8 → length pending ≡ 12 → Stored mid 1 (set (replicate 22 0) 0 p) a q → b ≡ pasted (set a 9 n) 10 pending → b ≡ (p ∷ mid) ++ (n ∷ pending)
@@ -43,10 +43,6 @@ put_in p n mid pending a b q m s x y =
     let all = (p ∷ mid) ++ (n ∷ []) ++ pending in
     let l : length all ≡ 22 = length-append ((p ∷ mid) ++ (n ∷ [])) pending ∙ omega arith in
     fourth ∙ paste_first zeros all ∙ ap (λ (i : ℕ). all ++ drop i zeros) l ∙ append-nil all ∙ append_assoc (p ∷ mid) (n ∷ []) pending
-
--- twelve octets in the place of twelve
-pub put_whole : (part : List ℕ) → length part ≡ 12 → pasted (replicate 12 0) 0 part ≡ part
-put_whole part n = paste_first (replicate 12 0) part ∙ ap (λ (i : ℕ). part ++ drop i (replicate 12 0)) n ∙ append-nil part
 
 -- ---- and taken out again
 parts_in : (p n : ℕ) (mid pending : List ℕ) → length mid ≡ 8 → receiver_in ((p ∷ mid) ++ (n ∷ pending)) ≡ record { p = octet p; epoch = signed_of (be mid 8); pending = pending; count = n }
@@ -84,33 +80,18 @@ handed_on r low high piece room n state rows new count many h =
     let x = feed_of builtin r piece room in
     (h.octets ∙ ap (λ (q : Receiver). cell (λ (f : Fate). state_of (next_of q (done f))) (feed_of builtin q piece room) (state_of r)) (given_back r low high) ∙ held_after r x, epoch_stays r x)
 
--- ---- a making, and a piece, into their cells
-module _ (state : List ℕ) where
-  pub make_refused : (x : Outcome Receiver) (n : ℕ) → given none_by x ≡ refused n → MakeCells x n state state
-  make_refused (done r) n h = never n 0 (sym h)
-  make_refused (refused m) n h = record { answer = sym (refused_is m n h); octets = refl }
-
-  -- what is made holds nothing
-  pub make_done : (p : PField) (e : ℤ) (n : ℕ) → given none_by (made_of p e) ≡ done n → MakeCells (made_of p e) 0 state (state_of (holding p e []))
-  make_done p e n h = go (laid All p e) h
-    where
-      go : (x : Outcome Layout) → given none_by (given (λ (l : Layout). holding p e []) x) ≡ done n → MakeCells (given (λ (l : Layout). holding p e []) x) 0 state (state_of (holding p e []))
-      go (done l) h = record { answer = refl; octets = refl }
-      go (refused m) h = never m n h
-
-  module _ (rows new : List (List ℤ)) (count : ℕ) where
-    pub feed_refused : (x : Outcome Fate) (r : Receiver) (f : Fed) (n : ℕ) → Feeds x r rows new f → says_feed f.answer ≡ refused n → FeedCells x n state state rows new count count
-    feed_refused (done y) r f n h a = never n (count_of y) (sym a ∙ h.answer)
-    feed_refused (refused m) r f n h a = record { answer = refused_is n m (sym a ∙ h.answer); octets = refl; answers = h.rows; number = refl }
-
-    pub feed_done : (x : Outcome Fate) (f : Fed) (n : ℕ) → Feeds x (receiver_in state) rows new f → says_feed f.answer ≡ done n → FeedCells x 0 state (state_of f.next) rows new count n
-    feed_done (done y) f n h a = record { answer = refl; octets = ap state_of h.next; answers = h.rows; number = done_is n (count_of y) (sym a ∙ h.answer) }
-    feed_done (refused m) f n h a = never m n (sym h.answer ∙ a)
-
 -- what is then held is few enough to be counted in an octet
-pub few_next : (r : Receiver) (piece : List ℕ) (rows new : List (List ℤ)) (f : Fed) (n : ℕ) → Feeds (feed_of builtin r piece (length rows)) r rows new f → says_feed f.answer ≡ done n → f.next.count < 256
-few_next r piece rows new f n h a = go (feed_of builtin r piece (length rows)) refl h
+pub few_next : (r after : Receiver) (piece : List ℕ) (rows new : List (List ℤ)) (n : ℕ) → Feeds (feed_of builtin r piece (length rows)) r after rows new (Ok n) → after.count < 256
+few_next r after piece rows new n h = go (feed_of builtin r piece (length rows)) refl h
   where
-    go : (x : Outcome Fate) → feed_of builtin r piece (length rows) ≡ x → Feeds x r rows new f → f.next.count < 256
+    go : (x : Outcome Fate) → feed_of builtin r piece (length rows) ≡ x → Feeds x r after rows new (Ok n) → after.count < 256
     go (done y) e h = rw h.next (omega (arith, few_left builtin r piece (length rows) y e))
-    go (refused m) e h = never m n (sym h.answer ∙ a)
+    go (refused m) e h = never m n (sym h.answer)
+
+-- octets that are there are a number
+pub epoch_read : (s : List ℕ) → 9 ≤ length s → ((i : ℕ) → get_or s i 0 < 256) → count_at s 1 8 ≡ Ok (be (drop 1 s) 8)
+epoch_read s h k = go (count_at s 1 8) refl
+  where
+    go : (r : Result ℕ Refusal) → count_at s 1 8 ≡ r → r ≡ Ok (be (drop 1 s) 8)
+    go (Ok n) e = ap Ok (told 256 octet_value octet_good 8 s 1 8 (Ok n) e).is
+    go (Err why) e = absurd (never_refused s 1 8 (lit≤ tt) h k why e)

@@ -1,9 +1,9 @@
 -- What the C interface's numbers say, and what its cells are given.
-use Rattle.std.specs.Prelude.{ℕ, Bool, List, [], ◌∷◌, ◌++◌, length, get_or, drop, ℤ}
+use Rattle.std.specs.Prelude.{ℕ, Bool, List, [], ◌∷◌, ◌++◌, length, get_or, drop, ℤ, Option, Some, None}
 use Rattle.base.specs.Parts.{bits_of, signed_of}
 use Rattle.scale.specs.Time.{Time}
 use Rattle.drift.specs.Rate.{Pair, pair_of}
-use Rattle.drift.specs.declared.Extreme as E
+use Rattle.drift.specs.declared.Extreme.{Extreme}
 use Rattle.drift.specs.declared.Report.{Report}
 use Rattle.calendar.specs.declared.Date.{Date}
 use Rattle.calendar.specs.declared.Ordinal.{Ordinal}
@@ -13,7 +13,7 @@ use Rattle.ascii.specs.declared.Layout.{Layout}
 use Rattle.octets.specs.Places.{be, octets}
 use Rattle.pfield.specs.PField.{octet}
 use Rattle.receiver.specs.declared.Receiver.{Receiver}
-use Rattle.window.specs.Window.{Listed}
+use Rattle.window.specs.declared.Listed.{Listed}
 
 abbrev pub itself : ℤ → ℤ
 itself z = z
@@ -79,9 +79,9 @@ abbrev pub pair : ℤ → ℕ → ℤ → ℕ → Pair
 pair s k t l = pair_of (time s k) (time t l)
 
 -- the numerator's bits, the denominator and the place: without a rate all are 0
-abbrev pub numbers_in : E.Extreme → List ℕ
-numbers_in E.TheVariants.Nothing = 0 ∷ 0 ∷ 0 ∷ []
-numbers_in (E.TheVariants.At place r) = bits_of r.num ∷ r.den ∷ place ∷ []
+abbrev pub numbers_in : Option Extreme → List ℕ
+numbers_in None = 0 ∷ 0 ∷ 0 ∷ []
+numbers_in (Some x) = bits_of x.rate.num ∷ x.rate.den ∷ x.place ∷ []
 
 -- the numbers of a report in their order
 abbrev pub numbers_of : Report → List ℕ

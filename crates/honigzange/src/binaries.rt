@@ -3,11 +3,10 @@ ghost use Rattle.leap.specs.Builtin.{builtin};
 ghost use Rattle.pfield.specs.PField.{octet};
 ghost use Rattle.codes.specs.Reading.{scan_of};
 ghost use Rattle.codes.specs.Writing.{write_of, from};
-ghost use Rattle.codes.specs.Answers.{says_scan};
 ghost use Rattle.honigzange.specs.Cells.{time};
 ghost use Rattle.honigzange.specs.Calls as Contract;
 
-use codes::ScanAnswer;
+use crate::value_of;
 use pfield::PField;
 use scale::Record;
 
@@ -25,25 +24,11 @@ pub extern "C" fn hz_read_binary(
     ensures { Contract.Scans (scan_of builtin bytes.now (from front (octet p)) epoch) result sec.old sec.new ticks.old ticks.new used.old used.new }
 {
     let preamble = super::preambles::preamble_of(front, p);
-    let a = codes::scan(bytes, preamble, epoch);
-    give(a, sec, ticks, used)
-}
-
-// A reading into its cells.
-fn give(a: ScanAnswer, sec: &mut i64, ticks: &mut u64, used: &mut usize) -> u8
-    ensures { Contract.Scans (says_scan a) result sec.old sec.new ticks.old ticks.new used.old used.new }
-{
-    match a {
-        ScanAnswer::Refused(why) => why.number(),
-        ScanAnswer::Done(r, n) => {
-            let whole = r.sec;
-            let part = r.ticks;
-            *sec = whole;
-            *ticks = part;
-            *used = n;
-            0
-        }
-    }
+    let read = value_of!(codes::scan(bytes, preamble, epoch));
+    *sec = read.moment.sec;
+    *ticks = read.moment.ticks;
+    *used = read.used;
+    0
 }
 
 // A moment as a binary code.
@@ -59,10 +44,7 @@ pub extern "C" fn hz_write_binary(
 ) -> u8
     ensures { Contract.Writes (write_of builtin (time sec ticks) (octet p) epoch front out.old) result out.old out.new written.old written.new }
 {
-    let r = Record {
-        sec: sec,
-        ticks: ticks,
-    };
-    let a = codes::write_binary(r, PField { octet: p }, epoch, front, out);
-    super::answers::give_length(a, written)
+    let r = Record { sec, ticks };
+    *written = value_of!(codes::write_binary(r, PField { octet: p }, epoch, front, out));
+    0
 }

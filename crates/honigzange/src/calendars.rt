@@ -1,11 +1,10 @@
 // Dates, days of the year and day numbers.
 ghost use Rattle.std.specs.Prelude.{◌≡◌};
 ghost use Rattle.base.specs.Outcome.{status, cell};
-ghost use Rattle.calendar.specs.Answers.{says_day};
 ghost use Rattle.calendar.specs.Gregorian.{day_of_date, day_of_ordinal, date_of_day, ordinal_of_day};
 ghost use Rattle.honigzange.specs.Cells.{itself, year_of, month_of, day_of, ordinal_year, ordinal_day};
 
-use calendar::{DateAnswer, DayAnswer, OrdinalAnswer};
+use crate::value_of;
 
 // The day number of a date.
 #[unsafe(no_mangle)]
@@ -13,8 +12,8 @@ pub extern "C" fn hz_day_of_date(year: u64, month: u64, day: u64, number: &mut i
     ensures answer { result ≡ status (day_of_date year month day) }
     ensures day { number.new ≡ cell itself (day_of_date year month day) number.old }
 {
-    let a = calendar::day_of_date(year, month, day);
-    give_number(a, number)
+    *number = value_of!(calendar::day_of_date(year, month, day));
+    0
 }
 
 // The date of a day number.
@@ -25,15 +24,11 @@ pub extern "C" fn hz_date_of_day(number: i64, year: &mut u64, month: &mut u64, d
     ensures months { month.new ≡ cell month_of (date_of_day number) month.old }
     ensures days { day.new ≡ cell day_of (date_of_day number) day.old }
 {
-    match calendar::date_of_day(number) {
-        DateAnswer::Refused(why) => why.number(),
-        DateAnswer::Done(t) => {
-            *year = t.year;
-            *month = t.month;
-            *day = t.day;
-            0
-        }
-    }
+    let date = value_of!(calendar::date_of_day(number));
+    *year = date.year;
+    *month = date.month;
+    *day = date.day;
+    0
 }
 
 // The day number of a day of a year.
@@ -42,22 +37,8 @@ pub extern "C" fn hz_day_of_ordinal(year: u64, day: u64, number: &mut i64) -> u8
     ensures answer { result ≡ status (day_of_ordinal year day) }
     ensures day { number.new ≡ cell itself (day_of_ordinal year day) number.old }
 {
-    let a = calendar::day_of_ordinal(year, day);
-    give_number(a, number)
-}
-
-// A day number into its cell.
-fn give_number(a: DayAnswer, number: &mut i64) -> u8
-    ensures answer { result ≡ status (says_day a) }
-    ensures day { number.new ≡ cell itself (says_day a) number.old }
-{
-    match a {
-        DayAnswer::Refused(why) => why.number(),
-        DayAnswer::Done(n) => {
-            *number = n;
-            0
-        }
-    }
+    *number = value_of!(calendar::day_of_ordinal(year, day));
+    0
 }
 
 // The year and the day of the year of a day number.
@@ -67,12 +48,8 @@ pub extern "C" fn hz_ordinal_of_day(number: i64, year: &mut u64, day: &mut u64) 
     ensures years { year.new ≡ cell ordinal_year (ordinal_of_day number) year.old }
     ensures days { day.new ≡ cell ordinal_day (ordinal_of_day number) day.old }
 {
-    match calendar::ordinal_of_day(number) {
-        OrdinalAnswer::Refused(why) => why.number(),
-        OrdinalAnswer::Done(o) => {
-            *year = o.year;
-            *day = o.day;
-            0
-        }
-    }
+    let ordinal = value_of!(calendar::ordinal_of_day(number));
+    *year = ordinal.year;
+    *day = ordinal.day;
+    0
 }

@@ -6,7 +6,8 @@ ghost use Rattle.drift.specs.Answers.{paired, pair_in};
 ghost use Rattle.honigzange.specs.Cells.{pair, numbers_in};
 ghost use Rattle.honigzange.specs.Calls as Contract;
 
-use drift::{Extreme, Pair, RateAnswer};
+use crate::value_of;
+use drift::{Extreme, Pair};
 use scale::Record;
 
 // The rate from one pair to another.
@@ -27,32 +28,24 @@ pub extern "C" fn hz_rate(
 {
     let first = pair_of(onboard, onboardticks, ground, groundticks);
     let second = pair_of(onboardthen, onboardthenticks, groundthen, groundthenticks);
-    match drift::rate_between(first, second) {
-        RateAnswer::Refused(why) => why.number(),
-        RateAnswer::Done(rate) => {
-            let n = rate.num;
-            let d = rate.den;
-            *num = n;
-            *den = d;
-            0
-        }
-    }
+    let rate = value_of!(drift::rate_between(first, second));
+    *num = rate.num;
+    *den = rate.den;
+    0
 }
 
 fn pair_of(onboard: i64, onboardticks: u64, ground: i64, groundticks: u64) -> Pair
     ensures { paired result ≡ pair onboard onboardticks ground groundticks }
 {
-    let o = Record {
-        sec: onboard,
-        ticks: onboardticks,
-    };
-    let g = Record {
-        sec: ground,
-        ticks: groundticks,
-    };
     Pair {
-        onboard: o,
-        ground: g,
+        onboard: Record {
+            sec: onboard,
+            ticks: onboardticks,
+        },
+        ground: Record {
+            sec: ground,
+            ticks: groundticks,
+        },
     }
 }
 
@@ -62,10 +55,8 @@ pub extern "C" fn hz_rates(run: &[[i64; 4]], report: &mut [u64; 10]) -> u8
     ensures { Contract.ReportCells (report_of (map pair_in run.now)) result report.new }
 {
     let told = drift::report_on(run);
-    let smallest = told.smallest;
-    let largest = told.largest;
-    let low = numbers_in(smallest);
-    let high = numbers_in(largest);
+    let low = numbers_in(told.smallest);
+    let high = numbers_in(told.largest);
     *report = [
         told.rates as u64,
         told.range as u64,
@@ -82,14 +73,11 @@ pub extern "C" fn hz_rates(run: &[[i64; 4]], report: &mut [u64; 10]) -> u8
 }
 
 // An extreme as three numbers: the bits of its numerator, its denominator and its place.
-fn numbers_in(e: Extreme) -> [u64; 3]
+fn numbers_in(e: Option<Extreme>) -> [u64; 3]
     ensures { result ≡ numbers_in e }
 {
     match e {
-        Extreme::Nothing => [0, 0, 0],
-        Extreme::At(place, rate) => {
-            let n = base::unsigned(rate.num);
-            [n, rate.den, place as u64]
-        }
+        None => [0, 0, 0],
+        Some(Extreme { place, rate }) => [base::unsigned(rate.num), rate.den, place as u64],
     }
 }

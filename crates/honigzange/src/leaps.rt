@@ -5,7 +5,7 @@ ghost use Rattle.leap.specs.Builtin.{builtin};
 ghost use Rattle.leap.specs.Utc.{utc_of_second, second_of_utc};
 ghost use Rattle.honigzange.specs.Cells.{itself, utc_day, utc_second, utc_offset};
 
-use leap::{SecondAnswer, UtcAnswer};
+use crate::value_of;
 
 // The UTC reading of a TAI second.
 #[unsafe(no_mangle)]
@@ -20,17 +20,11 @@ pub extern "C" fn hz_utc_of_second(
     ensures seconds { second_of_day.new ≡ cell utc_second (utc_of_second builtin sec) second_of_day.old }
     ensures offsets { offset.new ≡ cell utc_offset (utc_of_second builtin sec) offset.old }
 {
-    match leap::utc_of_second(sec) {
-        UtcAnswer::Refused(why) => why.number(),
-        UtcAnswer::Done(u) => {
-            let d = u.day;
-            let o = u.offset;
-            *day = d;
-            *second_of_day = u.second;
-            *offset = o;
-            0
-        }
-    }
+    let utc = value_of!(leap::utc_of_second(sec));
+    *day = utc.day;
+    *second_of_day = utc.second;
+    *offset = utc.offset;
+    0
 }
 
 // The TAI second of a second of a UTC day.
@@ -39,11 +33,6 @@ pub extern "C" fn hz_second_of_utc(day: i64, second_of_day: u64, sec: &mut i64) 
     ensures answer { result ≡ status (second_of_utc builtin day second_of_day) }
     ensures seconds { sec.new ≡ cell itself (second_of_utc builtin day second_of_day) sec.old }
 {
-    match leap::second_of_utc(day, second_of_day) {
-        SecondAnswer::Refused(why) => why.number(),
-        SecondAnswer::Done(s) => {
-            *sec = s;
-            0
-        }
-    }
+    *sec = value_of!(leap::second_of_utc(day, second_of_day));
+    0
 }

@@ -1,17 +1,14 @@
 // The moments that a shortened tag names in a window, listed.
-ghost use Rattle.std.specs.Prelude.{◌≡◌};
-ghost use Rattle.base.specs.Outcome.{status, cell};
-ghost use Rattle.window.specs.Window.{says_listing};
 ghost use Rattle.leap.specs.Builtin.{builtin};
 ghost use Rattle.pfield.specs.PField.{octet};
 ghost use Rattle.codes.specs.Writing.{from};
 ghost use Rattle.listing.specs.CucTag.{list_cuc};
 ghost use Rattle.listing.specs.AsciiTag.{list_ascii};
-ghost use Rattle.honigzange.specs.Cells.{time, listed_ticks, listed_count, listed_more};
+ghost use Rattle.honigzange.specs.Cells.{time};
 ghost use Rattle.honigzange.specs.Calls as Contract;
 
+use crate::value_of;
 use scale::Record;
-use window::Listing;
 
 // What a CUC tag names.
 #[unsafe(no_mangle)]
@@ -40,8 +37,11 @@ pub extern "C" fn hz_list_cuc(
         ticks: endticks,
     };
     let preamble = super::preambles::preamble_of(front, p);
-    let a = listing::list_cuc(tag, preamble, epoch, since, before, list);
-    give(a, ticks, count, more)
+    let listed = value_of!(listing::list_cuc(tag, preamble, epoch, since, before, list));
+    *ticks = listed.ticks;
+    *count = listed.count;
+    *more = listed.more;
+    0
 }
 
 // What a shortened ASCII tag names.
@@ -67,28 +67,9 @@ pub extern "C" fn hz_list_ascii(
         sec: end,
         ticks: endticks,
     };
-    let a = listing::list_ascii(tag, since, before, list);
-    give(a, ticks, count, more)
-}
-
-// A listing's answer into its cells.
-fn give(a: Listing, ticks: &mut u64, count: &mut usize, more: &mut bool) -> u8
-    ensures answer { result ≡ status (says_listing a) }
-    ensures parts { ticks.new ≡ cell listed_ticks (says_listing a) ticks.old }
-    ensures number { count.new ≡ cell listed_count (says_listing a) count.old }
-    ensures further { more.new ≡ cell listed_more (says_listing a) more.old }
-{
-    match a {
-        Listing::Refused(why) => why.number(),
-        Listing::Done {
-            ticks: t,
-            count: n,
-            more: m,
-        } => {
-            *ticks = t;
-            *count = n;
-            *more = m;
-            0
-        }
-    }
+    let listed = value_of!(listing::list_ascii(tag, since, before, list));
+    *ticks = listed.ticks;
+    *count = listed.count;
+    *more = listed.more;
+    0
 }

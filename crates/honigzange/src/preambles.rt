@@ -9,7 +9,8 @@ pub fn preamble_of(front: bool, p: u8) -> Preamble
     ensures { result ≡ from front (octet p) }
 {
     if front {
-        return Preamble::Front;
+        Preamble::Front
+    } else {
+        Preamble::Given(PField { octet: p })
     }
-    Preamble::Given(PField { octet: p })
 }

@@ -4,7 +4,8 @@ ghost use Rattle.base.specs.Outcome.{status, cell};
 ghost use Rattle.scale.specs.Time.{difference_of, shift_of};
 ghost use Rattle.honigzange.specs.Cells.{time, sec_of, ticks_of};
 
-use scale::{Record, Span, SpanAnswer};
+use crate::value_of;
+use scale::{Record, Span};
 
 // a - b
 #[unsafe(no_mangle)]
@@ -28,16 +29,10 @@ pub extern "C" fn hz_difference(
         sec: b_sec,
         ticks: b_ticks,
     };
-    match scale::difference(a, b) {
-        SpanAnswer::Refused(why) => why.number(),
-        SpanAnswer::Done(s) => {
-            let whole = s.sec;
-            let part = s.ticks;
-            *sec = whole;
-            *ticks = part;
-            0
-        }
-    }
+    let span = value_of!(scale::difference(a, b));
+    *sec = span.sec;
+    *ticks = span.ticks;
+    0
 }
 
 // r + s
@@ -54,14 +49,13 @@ pub extern "C" fn hz_shift(
     ensures seconds { to_sec.new ≡ cell sec_of (shift_of (time sec ticks) (time by_sec by_ticks)) to_sec.old }
     ensures parts { to_ticks.new ≡ cell ticks_of (shift_of (time sec ticks) (time by_sec by_ticks)) to_ticks.old }
 {
-    let r = Record {
-        sec: sec,
-        ticks: ticks,
-    };
+    let r = Record { sec, ticks };
     let s = Span {
         sec: by_sec,
         ticks: by_ticks,
     };
-    let a = scale::shift(r, s);
-    super::answers::give_record(a, to_sec, to_ticks)
+    let shifted = value_of!(scale::shift(r, s));
+    *to_sec = shifted.sec;
+    *to_ticks = shifted.ticks;
+    0
 }

@@ -7,6 +7,8 @@ ghost use Rattle.codes.specs.Setting.{ascii_of, wall_of};
 ghost use Rattle.honigzange.specs.Cells.{time, sec_of, ticks_of, ascii_layout};
 ghost use Rattle.honigzange.specs.Calls as Contract;
 
+use crate::value_of;
+use ascii::Layout;
 use scale::Record;
 
 // The moment of an ASCII code, which is the whole text.
@@ -16,8 +18,10 @@ pub extern "C" fn hz_read_ascii(code: &[u8], sec: &mut i64, ticks: &mut u64) -> 
     ensures seconds { sec.new ≡ cell sec_of (text_of builtin code.now) sec.old }
     ensures parts { ticks.new ≡ cell ticks_of (text_of builtin code.now) ticks.old }
 {
-    let a = codes::text::read(code);
-    super::answers::give_record(a, sec, ticks)
+    let r = value_of!(codes::text::read(code));
+    *sec = r.sec;
+    *ticks = r.ticks;
+    0
 }
 
 // A moment as an ASCII code.
@@ -33,17 +37,14 @@ pub extern "C" fn hz_write_ascii(
 ) -> u8
     ensures { Contract.Writes (ascii_of builtin (ascii_layout day_of_year digits z) (time sec ticks) out.old) result out.old out.new written.old written.new }
 {
-    let r = Record {
-        sec: sec,
-        ticks: ticks,
-    };
-    let l = ascii::Layout {
+    let r = Record { sec, ticks };
+    let layout = Layout {
         ordinal: day_of_year,
-        digits: digits as usize,
+        digits: usize::from(digits),
         zone: z,
     };
-    let a = codes::text::write(r, l, out, 0);
-    super::answers::give_length(a, written)
+    *written = value_of!(codes::text::write(r, layout, out, 0));
+    0
 }
 
 // A moment in the default setting.
@@ -51,10 +52,7 @@ pub extern "C" fn hz_write_ascii(
 pub extern "C" fn hz_write_wall(sec: i64, ticks: u64, out: &mut [u8], written: &mut usize) -> u8
     ensures { Contract.Writes (wall_of builtin (time sec ticks) out.old) result out.old out.new written.old written.new }
 {
-    let r = Record {
-        sec: sec,
-        ticks: ticks,
-    };
-    let a = codes::setting::write_wall(r, out);
-    super::answers::give_length(a, written)
+    let r = Record { sec, ticks };
+    *written = value_of!(codes::setting::write_wall(r, out));
+    0
 }

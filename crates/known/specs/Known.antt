@@ -3,7 +3,7 @@ use Rattle.std.specs.Prelude.{Bool, true, false, List, [], ◌∷◌, ℕ, ◌+�
 use Rattle.base.specs.Outcome.{Outcome, done, refused, given}
 use Rattle.scale.specs.Time.{Time, per_second}
 use Rattle.octets.specs.Writes.{end_of, filled}
-use Rattle.window.specs.Window.{Named, Listed, listed, leaves}
+use Rattle.window.specs.Window.{Named, listed, leaves}
 use Rattle.shape.specs.Quoted.{bytes}
 use Rattle.leap.specs.Builtin.{builtin}
 use Rattle.codes.specs.Text.{text_of}
@@ -14,6 +14,7 @@ use Rattle.pfield.specs.declared.Preamble.TheVariants.{Front}
 use Rattle.codes.specs.declared.setting.Setting.{Setting}
 use Rattle.codes.specs.declared.setting.Setting.TheVariants.{Binary, Ascii}
 use Rattle.listing.specs.CucTag.{list_cuc}
+use Rattle.window.specs.declared.Listed.{Listed}
 
 -- ---- calls and answers
 -- a call: of what, and with how much lent memory

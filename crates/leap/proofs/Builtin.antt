@@ -4,13 +4,14 @@ use mathlib.Core.Path.{◌≡◌, refl, sym, ap, ◌∙◌}
 use mathlib.Core.Bool.{Bool, true, false, ◌&&◌}
 use mathlib.Core.List.{List, [], ◌∷◌, ◌++◌, map}
 use native.Mathlib.Nat.{le_of_suc-le-suc, not-suc-le-zero}
+use native.Mathlib.Numerals.{add-one}
 use lib.Dec.{leb, ltb}
 use lib.ListN.{length, get_or, drop}
 use borrow.Author.Tests.{leb-true, le-leb, lt-leb, lt-ltb, le-ltb}
 use Rattle.base.proofs.Bools.{and_true, and_yes, and_no, and_false}
 use Rattle.leap.specs.declared.Row.{Row}
 use Rattle.leap.specs.Table.{good, offset, start, covers, covers_second}
-use Rattle.leap.specs.Builtin.{published, row_of, no_row, leaps, builtin, first_index, first_raised, last_index, past_index, past_raised}
+use Rattle.leap.specs.Builtin.{published, no_leap, row_of, no_row, leaps, builtin, first_index, first_raised, last_index, past_index, past_raised}
 use Rattle.leap.specs.Inner.{row_at, end_at, Small}
 
 pub builtin_good : good builtin ≡ true
@@ -62,9 +63,9 @@ at_map f [] x i h = absurd (not-suc-le-zero h)
 at_map f (y ∷ xs) x zero h = refl
 at_map f (y ∷ xs) x (suc i) h = at_map f xs x i (le_of_suc-le-suc h)
 
-pub row_is : (i : ℕ) → i < 28 → row_at builtin i ≡ row_of (get_or published i [])
+pub row_is : (i : ℕ) → i < 28 → row_at builtin i ≡ row_of (get_or published i no_leap)
 unfolding builtin
-row_is i h = at_map row_of published [] i h
+row_is i h = at_map row_of published no_leap i h
 
 -- a test that passes over a list passes at each place
 abbrev pub passes : {A : Type 0} → (A → Bool) → List A → Bool
@@ -90,8 +91,12 @@ unfolding builtin
 row_small i h = small_is (row_at builtin i) (pass_at small leaps no_row refl i h)
 
 -- the numbers that are read of a row
-pub row_read : (i : ℕ) → i < 28 → (get_or (get_or published i []) 0 0 + 714779 ≡ (row_at builtin i).day) × (get_or (get_or published i []) 1 0 + 64 ≡ (row_at builtin i).offset) × Small (row_at builtin i)
+pub row_read : (i : ℕ) → i < 28 → ((get_or published i no_leap).day + 714779 ≡ (row_at builtin i).day) × ((get_or published i no_leap).offset + 64 ≡ (row_at builtin i).offset) × Small (row_at builtin i)
 row_read i h = (sym (ap (λ (x : Row). x.day) (row_is i h)), sym (ap (λ (x : Row). x.offset) (row_is i h)), row_small i h)
+
+-- the same of a later row, in the list of the later ones
+pub later_is : (k : ℕ) → get_or (drop 1 published) k no_leap ≡ get_or published (k + 1) no_leap
+later_is k = rw add-one
 
 pub end_small : (i : ℕ) → i < 28 → Small (end_at builtin i)
 unfolding builtin

@@ -6,23 +6,23 @@ use mathlib.Core.List.{List, [], ◌∷◌}
 use native.Mathlib.Omega.{arith}
 use lib.Dec.{leb, ltb}
 use lib.IntN.{ℤ, pos}
-use borrow.Author.Tests.{leb-true, ltb-true}
+use borrow.Author.Tests.{leb-true, ltb-true, le-leb, lt-leb}
 use Rattle.base.specs.Parts.{within, At, lowered_by}
 use Rattle.base.specs.Seats.{seat_of}
-use Rattle.base.specs.declared.Seat.TheVariants.{In, Out}
 use Rattle.base.specs.Outcome.{Outcome, done, refused, and_then, given}
 use Rattle.base.proofs.Bools.{and_true, never_both}
-use Rattle.base.proofs.Ladders.{need_done, then_done, done_is}
+use Rattle.base.proofs.Ladders.{need_yes, need_no, need_done, then_done, done_is}
 use Rattle.base.proofs.Signed.{within_yes, seat_in_lem, seat_out}
 use Rattle.leap.specs.declared.Row.{Row}
 use Rattle.leap.specs.declared.Reading.{Reading}
 use Rattle.leap.specs.Table.{off_from, offset, start, day_length, day_holding, covers, covers_second, second_at, reading, reading_at}
 use Rattle.leap.specs.Builtin.{builtin, first_day, first_index, first_raised, first_second, last_day, last_index, last_second, past_raised}
-use Rattle.leap.specs.Utc.{day_raise, second_raise, lifted_by, reading_of, second_of}
+use Rattle.leap.specs.Utc.{day_raise, second_raise, lifted_by, reading_of, second_of, second_of_utc}
 use Rattle.leap.proofs.Days.{holding_le}
 use Rattle.leap.proofs.Builtin.{builtin_good, covered_days, covered_seconds, second_in_lem, first_second_lem, past_second, passes}
 use Rattle.leap.proofs.Outcomes.{reading_done, reading_uncovered, second_uncovered}
 use Rattle.leap.proofs.Raised.{raise_at, raise_out}
+use Rattle.std.specs.Prelude.{Some, None}
 
 -- a test that can't hold fails
 fails : (b : Bool) → (b ≡ true → ◌≡◌ {A = Bool} true false) → b ≡ false
@@ -30,10 +30,10 @@ fails true f = f refl
 fails false f = refl
 
 -- ---- TAI seconds
-pub seconds_in : (z : ℤ) (n : ℕ) → seat_of (pos first_second) (pos last_second) z ≡ In n → (At second_raise (n + first_raised) z) × (n + first_raised < past_raised)
+pub seconds_in : (z : ℤ) (n : ℕ) → seat_of (pos first_second) (pos last_second) z ≡ Some n → (At second_raise (n + first_raised) z) × (n + first_raised < past_raised)
 seconds_in z n e = let s = seat_in_lem (pos first_second) (pos last_second) z n e in (omega (arith, s.place), omega (arith, s.place, s.high))
 
-pub reading_in : (z : ℤ) (n : ℕ) → seat_of (pos first_second) (pos last_second) z ≡ In n → reading_of builtin z ≡ done (reading builtin (day_holding builtin (n + first_raised)) (n + first_raised - start builtin (day_holding builtin (n + first_raised))))
+pub reading_in : (z : ℤ) (n : ℕ) → seat_of (pos first_second) (pos last_second) z ≡ Some n → reading_of builtin z ≡ done (reading builtin (day_holding builtin (n + first_raised)) (n + first_raised - start builtin (day_holding builtin (n + first_raised))))
 unfolding reading_of
 reading_in z n e =
     let (a, h) = seconds_in z n e in
@@ -46,14 +46,14 @@ uncovered_second z n w a =
     let (p, q) = and_true (leb first_raised n) (ltb n past_raised) (sym (covered_seconds n) ∙ c) in
     never_both (within_yes (pos first_second) (pos last_second) z (omega (arith, leb-true first_raised n p)) (omega (arith, ltb-true n past_raised q))) w)
 
-pub reading_out : (z : ℤ) → seat_of (pos first_second) (pos last_second) z ≡ Out → reading_of builtin z ≡ refused 5
+pub reading_out : (z : ℤ) → seat_of (pos first_second) (pos last_second) z ≡ None → reading_of builtin z ≡ refused 5
 unfolding reading_of
 reading_out z e =
     raise_out second_raise z (reading_at builtin)
     (λ n a. reading_uncovered builtin n (uncovered_second z n (seat_out (pos first_second) (pos last_second) z e) a))
 
 -- ---- UTC days
-pub days_in : (z : ℤ) (n : ℕ) → seat_of (pos first_day) (pos last_day) z ≡ In n → (At day_raise (n + first_index) z) × (n ≤ last_day - first_day)
+pub days_in : (z : ℤ) (n : ℕ) → seat_of (pos first_day) (pos last_day) z ≡ Some n → (At day_raise (n + first_index) z) × (n ≤ last_day - first_day)
 days_in z n e = let s = seat_in_lem (pos first_day) (pos last_day) z n e in (omega (arith, s.place), omega (arith, s.place, s.high))
 
 uncovered_day : (z : ℤ) (n : ℕ) → within (pos first_day) (pos last_day) z ≡ false → At day_raise n z → covers builtin n ≡ false
@@ -62,11 +62,22 @@ uncovered_day z n w a =
     let (p, q) = and_true (leb first_index n) (leb n last_index) (sym (covered_days n) ∙ c) in
     never_both (within_yes (pos first_day) (pos last_day) z (omega (arith, leb-true first_index n p)) (omega (arith, leb-true n last_index q))) w)
 
-pub days_out : (z : ℤ) (x : ℕ) → x ≤ 86400 → seat_of (pos first_day) (pos last_day) z ≡ Out → and_then (lifted_by day_raise z) (λ n. second_of builtin n x) ≡ refused 5
-unfolding second_of
-days_out z x h e =
-    raise_out day_raise z (λ n. given (lowered_by second_raise) (second_at builtin n x))
-    (λ n a. ap (given (lowered_by second_raise)) (second_uncovered builtin n x h (uncovered_day z n (seat_out (pos first_day) (pos last_day) z e) a)))
+module _ (z : ℤ) (x : ℕ) where
+  pub utc_over : 86400 < x → second_of_utc builtin z x ≡ refused 4
+  unfolding second_of_utc
+  utc_over h = need_no 4 _ (lt-leb x 86400 h)
+
+  pub utc_in : (n : ℕ) → x ≤ 86400 → seat_of (pos first_day) (pos last_day) z ≡ Some n → second_of_utc builtin z x ≡ second_of builtin (n + first_index) x
+  unfolding second_of_utc
+  utc_in n h e =
+      need_yes 4 _ (le-leb x 86400 h) ∙ ap (λ (y : Outcome ℕ). and_then y (λ d. second_of builtin d x)) (raise_at day_raise (n + first_index) z (days_in z n e).0)
+
+  pub utc_out : x ≤ 86400 → seat_of (pos first_day) (pos last_day) z ≡ None → second_of_utc builtin z x ≡ refused 5
+  unfolding second_of second_of_utc
+  utc_out h e =
+      need_yes 4 _ (le-leb x 86400 h)
+      ∙ raise_out day_raise z (λ n. given (lowered_by second_raise) (second_at builtin n x))
+      (λ n a. ap (given (lowered_by second_raise)) (second_uncovered builtin n x h (uncovered_day z n (seat_out (pos first_day) (pos last_day) z e) a)))
 
 -- ---- what the machine's sums need
 abbrev low : Row → Bool

@@ -7,5 +7,4 @@ pub mod Raised
 pub mod Cover
 pub mod Promises
 pub mod Rule
-pub mod Once
 pub mod Known

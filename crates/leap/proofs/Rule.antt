@@ -1,5 +1,5 @@
 -- The built-in table's rule, computed once over the whole table and carried to each row by one law; and what it says of the days.
-use Prim.Native.Nat.{ℕ, zero, suc, ◌+◌, ◌-◌, ◌<◌, ◌≤◌}
+use Prim.Native.Nat.{ℕ, zero, suc, ◌+◌, ◌-◌, ◌*◌, ◌<◌, ◌≤◌}
 use mathlib.Core.Path.{◌≡◌, refl, sym, ap, ◌∙◌}
 use mathlib.Core.Bool.{Bool, true, false}
 use mathlib.Core.List.{List, [], ◌∷◌, map}
@@ -19,11 +19,11 @@ use Rattle.calendar.specs.Gregorian.{kind, year_start, years_to, row, month_leng
 use Rattle.leap.specs.declared.Row.{Row}
 use Rattle.leap.specs.declared.Utc.{Utc}
 use Rattle.leap.specs.Table.{offset, day_length}
-use Rattle.leap.specs.Builtin.{leaps, no_row, builtin, first_second, last_second}
+use Rattle.leap.specs.Builtin.{published, no_leap, row_of, leaps, no_row, builtin, first_second, last_second}
 use Rattle.leap.specs.Utc.{utc, utc_of_second}
 use Rattle.leap.specs.Rule.{dated, row_on, on_half_year, follows, neighbours}
-use Rattle.leap.specs.Inner.{row_at, end_at, OnDay}
-use Rattle.leap.proofs.Builtin.{builtin_good, later_rows}
+use Rattle.leap.specs.Inner.{row_at, end_at, Small, OnDay, InSecond}
+use Rattle.leap.proofs.Builtin.{builtin_good, later_rows, row_is, end_small}
 use Rattle.leap.proofs.Rows.{Ends, end_next, row_ends, offset_in, length_in, length_end}
 use Rattle.leap.proofs.Cover.{reading_in, reading_out}
 
@@ -66,6 +66,12 @@ offset_at (suc i) h = omega (arith, offset_at i (omega arith), adds_one i h)
 ended : (i : ℕ) → suc i < 28 → end_at builtin i ≡ row_at builtin (suc i)
 ended i h = end_next builtin i (omega (arith, later_rows)) ∙ ap (row_at builtin) (add-one i)
 
+-- what is read of it
+pub end_read : (i : ℕ) → suc i < 28 → (row_of (get_or published (i + 1) no_leap) ≡ end_at builtin i) × Small (row_of (get_or published (i + 1) no_leap))
+end_read i h =
+    let e : row_of (get_or published (i + 1) no_leap) ≡ end_at builtin i = sym (row_is (i + 1) (omega arith)) ∙ sym (end_next builtin i (omega (arith, later_rows))) in
+    (e, rw e (end_small i (omega arith)))
+
 -- what ends the last has its offset
 last_offset : (end_at builtin 27).offset ≡ 101
 unfolding builtin
@@ -78,6 +84,10 @@ end_offset i h =
     (λ (q : suc i ≡ 28). let e : i ≡ 27 = omega arith in omega (arith, offset_at i h, rw (← e) at last_offset))
     (λ (q : suc i < 28). omega (arith, adds_one i q, ap (λ (r : Row). r.offset) (ended i q)))
     (eq-or-lt_of_le h)
+
+-- the row in force when all rows whose day has come have begun is in force on the day
+pub on_day : (d i : ℕ) → InSecond builtin (d * 86400 + 101) i → OnDay builtin d i
+on_day d i w = record { row = w.row; low = omega (arith, w.low); high = omega (arith, w.high, (end_small _ w.row).offset_high) }
 
 -- a day on which row i is in force: its offset, its seconds, and that these are 86,400 or more
 module _ (d i : ℕ) (w : OnDay builtin d i) where
@@ -103,10 +113,6 @@ module _ (d i : ℕ) (w : OnDay builtin d i) where
 
   pub least_length : 86400 ≤ day_length builtin d
   least_length = ⊎_elim (λ l. omega (arith, l)) (λ l. omega (arith, l, end_offset i w.row)) which
-
-  -- the last row's days are ordinary, the last of them too
-  pub last_row_lem : i ≡ 27 → day_length builtin d ≡ 86400
-  last_row_lem e = ⊎_elim (λ l. l) (λ l. omega (arith, l, offset_at i w.row, rw (← e) at last_offset)) which
 
 -- "The day before each later row has 86,401 seconds"
 pub long_day : (i : ℕ) → suc i < 28 → day_length builtin ((row_at builtin (suc i)).day - 1) ≡ 86401

@@ -2,46 +2,53 @@
 use Rattle.std.specs.Prelude.{ℕ, ◌+◌, List, [], ◌∷◌, map, get_or, drop}
 use Rattle.leap.specs.Table.{Table}
 use Rattle.leap.specs.Utc.{day_raise, offset_raise, second_raise}
+use Rattle.leap.specs.declared.Leap.{Leap}
 use Rattle.leap.specs.declared.Row.{Row}
 
 -- a day, counted from 1958-01-01, and TAI minus UTC from then on
-abbrev pub published : List (List ℕ)
+abbrev pub leap_on : ℕ → ℕ → Leap
+leap_on d o = record { day = d; offset = o }
+
+abbrev pub no_leap : Leap
+no_leap = leap_on 0 0
+
+abbrev pub published : List Leap
 published =
-    (5113 ∷ 10 ∷ []) ∷
-    (5295 ∷ 11 ∷ []) ∷
-    (5479 ∷ 12 ∷ []) ∷
-    (5844 ∷ 13 ∷ []) ∷
-    (6209 ∷ 14 ∷ []) ∷
-    (6574 ∷ 15 ∷ []) ∷
-    (6940 ∷ 16 ∷ []) ∷
-    (7305 ∷ 17 ∷ []) ∷
-    (7670 ∷ 18 ∷ []) ∷
-    (8035 ∷ 19 ∷ []) ∷
-    (8582 ∷ 20 ∷ []) ∷
-    (8947 ∷ 21 ∷ []) ∷
-    (9312 ∷ 22 ∷ []) ∷
-    (10043 ∷ 23 ∷ []) ∷
-    (10957 ∷ 24 ∷ []) ∷
-    (11688 ∷ 25 ∷ []) ∷
-    (12053 ∷ 26 ∷ []) ∷
-    (12600 ∷ 27 ∷ []) ∷
-    (12965 ∷ 28 ∷ []) ∷
-    (13330 ∷ 29 ∷ []) ∷
-    (13879 ∷ 30 ∷ []) ∷
-    (14426 ∷ 31 ∷ []) ∷
-    (14975 ∷ 32 ∷ []) ∷
-    (17532 ∷ 33 ∷ []) ∷
-    (18628 ∷ 34 ∷ []) ∷
-    (19905 ∷ 35 ∷ []) ∷
-    (21000 ∷ 36 ∷ []) ∷
-    (21550 ∷ 37 ∷ []) ∷ []
+    leap_on 5113 10 ∷
+    leap_on 5295 11 ∷
+    leap_on 5479 12 ∷
+    leap_on 5844 13 ∷
+    leap_on 6209 14 ∷
+    leap_on 6574 15 ∷
+    leap_on 6940 16 ∷
+    leap_on 7305 17 ∷
+    leap_on 7670 18 ∷
+    leap_on 8035 19 ∷
+    leap_on 8582 20 ∷
+    leap_on 8947 21 ∷
+    leap_on 9312 22 ∷
+    leap_on 10043 23 ∷
+    leap_on 10957 24 ∷
+    leap_on 11688 25 ∷
+    leap_on 12053 26 ∷
+    leap_on 12600 27 ∷
+    leap_on 12965 28 ∷
+    leap_on 13330 29 ∷
+    leap_on 13879 30 ∷
+    leap_on 14426 31 ∷
+    leap_on 14975 32 ∷
+    leap_on 17532 33 ∷
+    leap_on 18628 34 ∷
+    leap_on 19905 35 ∷
+    leap_on 21000 36 ∷
+    leap_on 21550 37 ∷ []
 
 -- raised as the laws want it
-abbrev pub row_of : List ℕ → Row
-row_of p = record { day = get_or p 0 0 + day_raise; offset = get_or p 1 0 + offset_raise }
+abbrev pub row_of : Leap → Row
+row_of p = record { day = p.day + day_raise; offset = p.offset + offset_raise }
 
 abbrev pub no_row : Row
-no_row = row_of []
+no_row = row_of no_leap
 
 abbrev pub leaps : List Row
 leaps = map row_of published

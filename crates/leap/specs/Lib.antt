@@ -2,5 +2,4 @@ pub mod Table
 pub mod Builtin
 pub mod Utc
 pub mod Rule
-pub mod Answers
 pub mod Inner

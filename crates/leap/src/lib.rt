@@ -3,24 +3,25 @@
 // day * 86400 + offset.
 #![tactic(auto)]
 
-ghost use Rattle.std.specs.Prelude.{◌≡◌, ◌-◌, ◌≤◌, ◌<◌};
-ghost use Rattle.leap.specs.Table.{start, day_holding, reading, second_at, reading_at, day_on, day_at};
+ghost use Rattle.std.specs.Prelude.{◌≡◌, ◌+◌, ◌-◌, ◌*◌, ◌≤◌, ◌<◌};
+ghost use Rattle.base.specs.Outcome.{done, need};
+ghost use Rattle.leap.specs.Table.{start, covers, day_holding, reading, second_at, reading_at, day_on, day_at};
 ghost use Rattle.leap.specs.Utc.{reading_of, second_of, utc_of_second, second_of_utc};
-ghost use Rattle.leap.specs.Answers.{says_raised, says_reading, says_second, says_utc, says_covered};
 ghost use Rattle.leap.specs.Builtin.{builtin, first_index, past_index, first_raised, past_raised};
 ghost use Rattle.leap.specs.Inner.{row_at, end_at, Small, OnDay, InSecond};
+ghost use Rattle.base.specs.Said.{said, says};
 
-use base::{Refusal, Seat};
+use base::Refusal;
 
 // A day and TAI minus UTC from it on.
-#[derive(Clone, Copy)]
+#[derive(Clone, Copy, Debug, PartialEq, Eq)]
 pub struct Row {
     pub day: u64,
     pub offset: u64,
 }
 
 // A day, a second of it (86,400 is 23:59:60), and the day's offset.
-#[derive(Clone, Copy)]
+#[derive(Clone, Copy, Debug, PartialEq, Eq)]
 pub struct Reading {
     pub day: u64,
     pub second: u64,
@@ -28,7 +29,7 @@ pub struct Reading {
 }
 
 // The same of signed numbers: the day counted from 1958-01-01, and TAI minus UTC.
-#[derive(Clone, Copy)]
+#[derive(Clone, Copy, Debug, PartialEq, Eq)]
 pub struct Utc {
     pub day: i64,
     pub second: u64,
@@ -36,41 +37,40 @@ pub struct Utc {
 }
 
 // The raised TAI second in which a day begins, and how many seconds the day has.
-#[derive(Clone, Copy)]
+#[derive(Clone, Copy, Debug, PartialEq, Eq)]
 pub struct Day {
     pub start: u64,
     pub length: u64,
 }
 
+// A row as it is published: a day counted from 1958-01-01, and TAI minus UTC from it on.
 #[derive(Clone, Copy)]
-pub enum ReadingAnswer {
-    Done(Reading),
-    Refused(Refusal),
+struct Leap {
+    day: u16,
+    offset: u16,
 }
 
+// A row of the table, by its number.
 #[derive(Clone, Copy)]
-pub enum UtcAnswer {
-    Done(Utc),
-    Refused(Refusal),
+struct RowNumber {
+    number: usize,
+    ghost in_table: { number < 28 },
 }
 
-// A raised TAI second.
+// A covered day, by its index.
 #[derive(Clone, Copy)]
-pub enum RaisedAnswer {
-    Done(u64),
-    Refused(Refusal),
+struct CoveredDay {
+    index: u64,
+    ghost begun: { first_index ≤ index },
+    ghost before_end: { index < past_index },
 }
 
+// A covered TAI second, raised.
 #[derive(Clone, Copy)]
-pub enum SecondAnswer {
-    Done(i64),
-    Refused(Refusal),
-}
-
-#[derive(Clone, Copy)]
-pub enum CoveredDay {
-    Done(Day),
-    Refused(Refusal),
+struct CoveredSecond {
+    raised: u64,
+    ghost begun: { first_raised ≤ raised },
+    ghost before_end: { raised < past_raised },
 }
 
 // The cover's ends: days counted from 1958-01-01, TAI seconds, and both raised as they are inside; PAST is the first
@@ -108,176 +108,265 @@ const SECOND_RAISE: u64 = 61756905664;
 
 const LAST_ROW_BEGINS: u64 = 63618825701;
 
-// Days are counted from 1958-01-01.
-const LEAPS: [[u16; 2]; 28] = [
-    [5113, 10],
-    [5295, 11],
-    [5479, 12],
-    [5844, 13],
-    [6209, 14],
-    [6574, 15],
-    [6940, 16],
-    [7305, 17],
-    [7670, 18],
-    [8035, 19],
-    [8582, 20],
-    [8947, 21],
-    [9312, 22],
-    [10043, 23],
-    [10957, 24],
-    [11688, 25],
-    [12053, 26],
-    [12600, 27],
-    [12965, 28],
-    [13330, 29],
-    [13879, 30],
-    [14426, 31],
-    [14975, 32],
-    [17532, 33],
-    [18628, 34],
-    [19905, 35],
-    [21000, 36],
-    [21550, 37],
+const LAST_ROW: usize = 27;
+
+const LAST_OFFSET: u64 = 101;
+
+const LEAPS: [Leap; 28] = [
+    Leap {
+        day: 5113,
+        offset: 10,
+    },
+    Leap {
+        day: 5295,
+        offset: 11,
+    },
+    Leap {
+        day: 5479,
+        offset: 12,
+    },
+    Leap {
+        day: 5844,
+        offset: 13,
+    },
+    Leap {
+        day: 6209,
+        offset: 14,
+    },
+    Leap {
+        day: 6574,
+        offset: 15,
+    },
+    Leap {
+        day: 6940,
+        offset: 16,
+    },
+    Leap {
+        day: 7305,
+        offset: 17,
+    },
+    Leap {
+        day: 7670,
+        offset: 18,
+    },
+    Leap {
+        day: 8035,
+        offset: 19,
+    },
+    Leap {
+        day: 8582,
+        offset: 20,
+    },
+    Leap {
+        day: 8947,
+        offset: 21,
+    },
+    Leap {
+        day: 9312,
+        offset: 22,
+    },
+    Leap {
+        day: 10043,
+        offset: 23,
+    },
+    Leap {
+        day: 10957,
+        offset: 24,
+    },
+    Leap {
+        day: 11688,
+        offset: 25,
+    },
+    Leap {
+        day: 12053,
+        offset: 26,
+    },
+    Leap {
+        day: 12600,
+        offset: 27,
+    },
+    Leap {
+        day: 12965,
+        offset: 28,
+    },
+    Leap {
+        day: 13330,
+        offset: 29,
+    },
+    Leap {
+        day: 13879,
+        offset: 30,
+    },
+    Leap {
+        day: 14426,
+        offset: 31,
+    },
+    Leap {
+        day: 14975,
+        offset: 32,
+    },
+    Leap {
+        day: 17532,
+        offset: 33,
+    },
+    Leap {
+        day: 18628,
+        offset: 34,
+    },
+    Leap {
+        day: 19905,
+        offset: 35,
+    },
+    Leap {
+        day: 21000,
+        offset: 36,
+    },
+    Leap {
+        day: 21550,
+        offset: 37,
+    },
 ];
 
 // The UTC reading of a TAI second.
-pub fn utc_of_second(sec: i64) -> UtcAnswer
-    ensures { says_utc result ≡ utc_of_second builtin sec }
+#[tactic(auto, using(crate::proofs::Cover::reading_low, base::proofs::Signed::lower_at, base::proofs::Signed::back), unfolding(crate::specs::Utc::utc_of_second))]
+pub fn utc_of_second(sec: i64) -> Result<Utc, Refusal>
+    ensures { said result ≡ utc_of_second builtin sec }
 {
-    match reading_of(sec) {
-        ReadingAnswer::Refused(why) => UtcAnswer::Refused(why),
-        ReadingAnswer::Done(r) => {
-            let day = base::lowered(r.day + calendar::DAY_BIAS);
-            let offset = base::lowered(r.offset + OFFSET_BIAS);
-            UtcAnswer::Done(Utc {
-                day: day,
-                second: r.second,
-                offset: offset,
-            })
-        }
-    }
+    let Reading {
+        day,
+        second,
+        offset,
+    } = reading_of(sec)?;
+    Ok(Utc {
+        day: base::lowered(day + calendar::DAY_BIAS),
+        second,
+        offset: base::lowered(offset + OFFSET_BIAS),
+    })
 }
 
 // The TAI second of a second of a UTC day.
-pub fn second_of_utc(day: i64, second: u64) -> SecondAnswer
-    ensures { says_second result ≡ second_of_utc builtin day second }
+#[tactic(auto, using(base::proofs::Signed::back, crate::proofs::Cover::days_in, crate::proofs::Cover::utc_over, crate::proofs::Cover::utc_in, crate::proofs::Cover::utc_out))]
+pub fn second_of_utc(day: i64, second: u64) -> Result<i64, Refusal>
+    ensures { said result ≡ second_of_utc builtin day second }
 {
     if 86400 < second {
-        return SecondAnswer::Refused(Refusal::Field);
+        return Err(Refusal::Field);
     }
-    match base::seated(FIRST_DAY, LAST_DAY, day) {
-        Seat::Out => SecondAnswer::Refused(Refusal::Uncovered),
-        Seat::In(n) => second_of(n + FIRST_INDEX, second),
-    }
+    let Some(n) = base::seated(FIRST_DAY, LAST_DAY, day) else {
+        return Err(Refusal::Uncovered);
+    };
+    second_of(n + FIRST_INDEX, second)
 }
 
-// The same with the day's index.
-pub fn reading_of(sec: i64) -> ReadingAnswer
-    ensures { says_reading result ≡ reading_of builtin sec }
+// The UTC reading of a TAI second, with the day's index.
+#[tactic(auto, using(base::proofs::Signed::back, crate::proofs::Cover::seconds_in, crate::proofs::Cover::reading_in, crate::proofs::Cover::reading_out))]
+pub fn reading_of(sec: i64) -> Result<Reading, Refusal>
+    ensures { said result ≡ reading_of builtin sec }
 {
-    match base::seated(FIRST_SECOND, LAST_SECOND, sec) {
-        Seat::Out => ReadingAnswer::Refused(Refusal::Uncovered),
-        Seat::In(n) => ReadingAnswer::Done(locate(n + FIRST_RAISED)),
+    let Some(n) = base::seated(FIRST_SECOND, LAST_SECOND, sec) else {
+        return Err(Refusal::Uncovered);
+    };
+    Ok(CoveredSecond {
+        raised: n + FIRST_RAISED,
     }
+    .reading())
 }
 
-pub fn second_of(day: u64, second: u64) -> SecondAnswer
-    ensures { says_second result ≡ second_of builtin day second }
+#[tactic(auto, using(crate::proofs::Cover::second_low, base::proofs::Signed::lower_at), unfolding(crate::specs::Utc::second_of))]
+pub fn second_of(day: u64, second: u64) -> Result<i64, Refusal>
+    ensures { said result ≡ second_of builtin day second }
 {
-    match second_at(day, second) {
-        RaisedAnswer::Refused(why) => SecondAnswer::Refused(why),
-        RaisedAnswer::Done(s) => SecondAnswer::Done(base::lowered(s + SECOND_BIAS)),
-    }
+    Ok(base::lowered(second_at(day, second)? + SECOND_BIAS))
 }
 
 // The raised TAI second of a second of a day.
-pub fn second_at(day: u64, second: u64) -> RaisedAnswer
-    ensures { says_raised result ≡ second_at builtin day second }
+#[tactic(auto, unfolding(crate::specs::Table::second_at))]
+pub fn second_at(day: u64, second: u64) -> Result<u64, Refusal>
+    ensures { said result ≡ second_at builtin day second }
 {
     if 86400 < second {
-        return RaisedAnswer::Refused(Refusal::Field);
+        return Err(Refusal::Field);
     }
-    if day < FIRST_INDEX {
-        return RaisedAnswer::Refused(Refusal::Uncovered);
+    let covered = CoveredDay::new(day)?;
+    let row = covered.row();
+    if second == 86400 && covered.day(row).length == 86400 {
+        return Err(Refusal::NoSuchSecond);
     }
-    if PAST_INDEX <= day {
-        return RaisedAnswer::Refused(Refusal::Uncovered);
-    }
-    let i = row_on_day(day);
-    if second == 86400 {
-        let length = day_in_row(day, i).length;
-        if length == 86400 {
-            return RaisedAnswer::Refused(Refusal::NoSuchSecond);
-        }
-    }
-    let s = day * 86400 + second + offset_at(i);
-    RaisedAnswer::Done(s)
+    Ok(covered.index * 86400 + second + row.offset())
 }
 
 // The reading of a raised TAI second.
-pub fn reading_at(s: u64) -> ReadingAnswer
-    ensures { says_reading result ≡ reading_at builtin s }
+#[tactic(auto, using(crate::proofs::Builtin::second_in_lem, crate::proofs::Builtin::second_under, crate::proofs::Builtin::second_over), unfolding(crate::specs::Table::reading_at))]
+pub fn reading_at(s: u64) -> Result<Reading, Refusal>
+    ensures { said result ≡ reading_at builtin s }
 {
-    if s < FIRST_RAISED {
-        return ReadingAnswer::Refused(Refusal::Uncovered);
+    if (FIRST_RAISED..PAST_RAISED).contains(&s) {
+        Ok(CoveredSecond { raised: s }.reading())
+    } else {
+        Err(Refusal::Uncovered)
     }
-    if PAST_RAISED <= s {
-        return ReadingAnswer::Refused(Refusal::Uncovered);
-    }
-    ReadingAnswer::Done(locate(s))
 }
 
 // A covered day, by its index.
-pub fn day_at(day: u64) -> CoveredDay
-    ensures { says_covered result ≡ day_at builtin day }
+#[tactic(auto, unfolding(crate::specs::Table::day_at))]
+pub fn day_at(day: u64) -> Result<Day, Refusal>
+    ensures { said result ≡ day_at builtin day }
 {
-    if day < FIRST_INDEX {
-        return CoveredDay::Refused(Refusal::Uncovered);
-    }
-    if PAST_INDEX <= day {
-        return CoveredDay::Refused(Refusal::Uncovered);
-    }
-    CoveredDay::Done(day_in_row(day, row_on_day(day)))
+    let covered = CoveredDay::new(day)?;
+    Ok(covered.day(covered.row()))
 }
 
-// The row in force on a covered day. No offset is over 101: by then each row whose day has come has begun.
-fn row_on_day(day: u64) -> usize
-    requires { (first_index ≤ day) × (day < past_index) }
-    ensures { OnDay builtin day result }
-{
-    row_in_second(day * 86400 + 101)
-}
-
-// A covered day, on which row i is in force. It is an ordinary one, unless the next row begins where it ends.
-fn day_in_row(day: u64, i: usize) -> Day
-    requires { OnDay builtin day i }
-    ensures { result ≡ day_on builtin day }
-{
-    let offset = offset_at(i);
-    let start = day * 86400 + offset;
-    if i < 27 {
-        let next = row_at(i + 1);
-        if day + 1 == next.day {
-            let length = 86400 + next.offset - offset;
-            return Day { start, length };
+impl CoveredDay {
+    #[tactic(auto, using(crate::proofs::Builtin::day_in_lem, crate::proofs::Builtin::day_under, crate::proofs::Builtin::day_over))]
+    fn new(index: u64) -> Result<Self, Refusal>
+        ensures { says (λ d. d.index) result ≡ need (covers builtin index) 5 (done index) }
+    {
+        if (FIRST_INDEX..PAST_INDEX).contains(&index) {
+            Ok(Self { index })
+        } else {
+            Err(Refusal::Uncovered)
         }
     }
-    let length = 86400;
-    Day { start, length }
+
+    // The row in force. No offset is over 101: by then each row whose day has come has begun.
+    fn row(self) -> RowNumber
+        ensures { OnDay builtin self.index result.number }
+    {
+        CoveredSecond {
+            raised: self.index * 86400 + LAST_OFFSET,
+        }
+        .row()
+    }
+
+    // The day, on which that row is in force. It is an ordinary one, unless the row ends with it and the next has
+    // another offset.
+    fn day(self, row: RowNumber) -> Day
+        requires { OnDay builtin self.index row.number }
+        ensures { result ≡ day_on builtin self.index }
+    {
+        let offset = row.offset();
+        let end = row.end();
+        let length = if self.index + 1 == end.day {
+            86400 + end.offset - offset
+        } else {
+            86400
+        };
+        Day {
+            start: self.index * 86400 + offset,
+            length,
+        }
+    }
 }
 
-// The reading of a covered TAI second.
-fn locate(s: u64) -> Reading
-    requires { (first_raised ≤ s) × (s < past_raised) }
-    ensures { result ≡ reading builtin (day_holding builtin s) (s - start builtin (day_holding builtin s)) }
-{
-    let i = row_in_second(s);
-    let offset = offset_at(i);
-    let day = (s - offset) / 86400;
-    let second = (s - offset) % 86400;
-    if second == 0 {
-        let end = end_at(i);
-        if end.day == day {
+impl CoveredSecond {
+    fn reading(self) -> Reading
+        ensures { result ≡ reading builtin (day_holding builtin self.raised) (self.raised - start builtin (day_holding builtin self.raised)) }
+    {
+        let row = self.row();
+        let offset = row.offset();
+        let day = (self.raised - offset) / 86400;
+        let second = (self.raised - offset) % 86400;
+        if second == 0 && row.end().day == day {
             // 23:59:60 stands in its own day
             return Reading {
                 day: day - 1,
@@ -285,66 +374,68 @@ fn locate(s: u64) -> Reading
                 offset,
             };
         }
+        Reading {
+            day,
+            second,
+            offset,
+        }
     }
-    Reading {
-        day,
-        second,
-        offset,
+
+    // The row in force: its number is how many later rows have begun. Most seconds that are asked for are in the last
+    // row.
+    fn row(self) -> RowNumber
+        ensures { InSecond builtin self.raised result.number }
+    {
+        if LAST_ROW_BEGINS <= self.raised {
+            return RowNumber { number: LAST_ROW };
+        }
+        let rows = LEAPS;
+        // from 1958-01-01, as the rows are
+        let t = (self.raised - SECOND_RAISE) as u32;
+        // all are counted, and in 32 bits: so it compiles without a branch
+        let mut begun: u32 = 0;
+        for leap in &rows[1..] {
+            begun += (leap.begin() <= t) as u32;
+        }
+        RowNumber {
+            number: begun as usize,
+        }
     }
 }
 
-// The row in force in a covered TAI second: its number is how many later rows have begun. Most seconds that are asked
-// for are in the last row.
-fn row_in_second(s: u64) -> usize
-    requires { (first_raised ≤ s) × (s < past_raised) }
-    ensures { InSecond builtin s result }
-{
-    if LAST_ROW_BEGINS <= s {
-        return 27;
+impl RowNumber {
+    // Each row adds one.
+    #[tactic(auto, using(crate::proofs::Rule::offset_at))]
+    fn offset(self) -> u64
+        ensures { result ≡ (row_at builtin self.number).offset }
+    {
+        self.number as u64 + 74
     }
-    let rows = LEAPS;
-    // from 1958-01-01, as the rows are
-    let t = (s - SECOND_RAISE) as u32;
-    // all are counted, and in 32 bits: so it compiles without a branch
-    let mut n: u32 = 0;
-    let mut i = 1;
-    while i < 28 {
-        let begin = rows[i][0] as u32 * 86400 + rows[i][1] as u32;
-        n += (begin <= t) as u32;
-        i += 1;
-    }
-    n as usize
-}
 
-// The offset of row i: each row adds one.
-fn offset_at(i: usize) -> u64
-    requires { i < 28 }
-    ensures { result ≡ (row_at builtin i).offset }
-{
-    i as u64 + 74
-}
-
-// What ends row i: the next row, or the first day past the cover.
-fn end_at(i: usize) -> Row
-    requires { i < 28 }
-    ensures { (result ≡ end_at builtin i) × Small result }
-{
-    if i < 27 {
-        return row_at(i + 1);
-    }
-    Row {
-        day: PAST_INDEX,
-        offset: 101,
+    // What ends the row: the next row, or the first day past the cover.
+    fn end(self) -> Row
+        ensures { (result ≡ end_at builtin self.number) × Small result }
+    {
+        if self.number == LAST_ROW {
+            return Row {
+                day: PAST_INDEX,
+                offset: LAST_OFFSET,
+            };
+        }
+        let Leap { day, offset } = LEAPS[self.number + 1];
+        Row {
+            day: day as u64 + DAY_RAISE,
+            offset: offset as u64 + OFFSET_RAISE,
+        }
     }
 }
 
-// Row i.
-fn row_at(i: usize) -> Row
-    requires { i < 28 }
-    ensures { (result ≡ row_at builtin i) × Small result }
-{
-    let rows = LEAPS;
-    let day = rows[i][0] as u64 + DAY_RAISE;
-    let offset = rows[i][1] as u64 + OFFSET_RAISE;
-    Row { day, offset }
+impl Leap {
+    // When it begins, in seconds from 1958-01-01.
+    fn begin(self) -> u32
+        requires { self.day < 30000 }
+        ensures { result ≡ self.day * 86400 + self.offset }
+    {
+        self.day as u32 * 86400 + self.offset as u32
+    }
 }

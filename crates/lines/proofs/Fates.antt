@@ -79,3 +79,13 @@ pub goes : (p s : List ℕ) (room : ℕ) → length p ≤ 65 → 80 ≤ room →
 unfolding fate before
 goes p [] room l h k = absurd (omega arith)
 goes p (b ∷ s) room l h k = goes_at p b s room (eqb b 10) refl l h k (goes (kept (p ++ b ∷ [])) s room (kept_small (p ++ b ∷ [])) h)
+
+-- ---- a piece is got on with: where there is room for an answer, its first byte is used at least
+used_at : (p : List ℕ) (b : ℕ) (s : List ℕ) (room : ℕ) (t : Bool) → eqb b 10 ≡ t → 80 ≤ room → 0 < (fate builtin p (b ∷ s) room).used
+unfolding fate
+used_at p b s room true e h = simp (e, le-ltb room 80 h) (omega arith)
+used_at p b s room false e h = simp e (omega arith)
+
+pub some_used : (p s : List ℕ) (room : ℕ) → 0 < length s → 80 ≤ room → 0 < (fate builtin p s room).used
+some_used p [] room n h = absurd (omega arith)
+some_used p (b ∷ s) room n h = used_at p b s room (eqb b 10) refl h

@@ -6,7 +6,9 @@ use native.Mathlib.Nat.{add_assoc}
 use native.Mathlib.Numerals.{add-one}
 use native.Mathlib.Omega.{arith}
 use lib.ListN.{length, take, drop, length-append, length-drop, length-take, take-append-drop}
-use lib.Seq.{drop-drop, take_at, drop_at, length-take-le}
+use lib.Seq.{drop-drop, drop-length, take_at, drop_at, length-take-le}
+use borrow.Rule.Slice.PartMut.{put_mid}
+use Rattle.std.proofs.lemmas.List.{take_rest}
 use borrow.Author.Tests.{lt-ltb, le-ltb, eq-eqb, ne_eqb}
 use Rattle.octets.specs.Stores.{pasted}
 use Rattle.octets.proofs.Pastes.{length_pasted, paste_first}
@@ -25,6 +27,16 @@ unfolding pasted
 front_pasted d at to a h e =
     let n : length (take at d ++ a) ≡ to = omega (arith, length-append (take at d) a, length-take-le at d h) in
     (take_at (take at d ++ a) (drop (at + length a) d) to n, drop_at (take at d ++ a) (drop (at + length a) d) to n ∙ ap (λ (k : ℕ). drop k d) (sym e))
+
+-- a front of the bytes from a place on is written: so it is written at that place
+pub pasted_part : (d x e a : List ℕ) (n k : ℕ) → x ≡ take k (drop n d) → k ≡ length d - n → e ≡ pasted x 0 a → put_mid n k d e ≡ pasted d n a
+unfolding pasted
+pasted_part d x e a n k p q r =
+    let y : x ≡ drop n d = p ∙ ap (λ (j : ℕ). take j (drop n d)) q ∙ take_rest d n in
+    let f : e ≡ a ++ drop (length a) (drop n d) = r ∙ ap (λ (l : List ℕ). pasted l 0 a) y ∙ paste_first (drop n d) a in
+    let l : k ≡ length (drop n d) = omega (arith, length-drop n d) in
+    let z : drop k (drop n d) ≡ [] = ap (λ (j : ℕ). drop j (drop n d)) l ∙ drop-length (drop n d) in
+    rw (f, drop-drop (length a) n d, z) (simp (append_assoc, append-nil))
 
 -- bytes that agree past a place agree past any later one
 pub agree_past : (x y : List ℕ) (n m : ℕ) → n ≤ m → drop n x ≡ drop n y → drop m x ≡ drop m y

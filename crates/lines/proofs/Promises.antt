@@ -15,7 +15,9 @@ use Rattle.lines.specs.Answer.{answer_of}
 use Rattle.lines.specs.Split.{Fate, fate, kept, before, last_of, answers_from, answers, ending}
 use Rattle.lines.specs.Runs.{Run, last, more, fed_all, whole_of, Roomy, none, also}
 use Rattle.lines.proofs.Texts.{length_answer}
-use Rattle.lines.proofs.Fates.{take_join, kept_answer}
+use Rattle.lines.specs.Says.{Fares}
+use Rattle.lines.specs.declared.Fed.{Fed}
+use Rattle.lines.proofs.Fates.{take_join, kept_answer, some_used}
 
 -- ---- the input, line by line
 pub no_input : answers builtin [] ≡ []
@@ -140,3 +142,7 @@ uses_some p b s room h = go (eqb b 10) refl
     go : (t : Bool) → eqb b 10 ≡ t → 0 < (fate builtin p (b ∷ s) room).used
     go true e = let d = le-ltb room 80 h in simp (e, d) (omega arith)
     go false e = simp e (omega arith)
+
+-- ---- a call that is given bytes, and room for an answer, uses a byte at least: so a loop of calls over a piece ends
+pub uses : (p piece old new : List ℕ) (r : Fed) → Fares (fate builtin p piece (length old)) piece old new r → 0 < length piece → 80 ≤ length old → 0 < r.used
+uses p piece old new r g n h = rw g.answer (some_used p piece (length old) n h)

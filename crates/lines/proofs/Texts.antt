@@ -2,32 +2,31 @@
 use mathlib.Core.Path.{◌≡◌, refl, sym, ap, ◌∙◌}
 use mathlib.Core.Bool.{Bool, true, false, cond}
 use mathlib.Core.List.{List, [], ◌∷◌, ◌++◌}
-use Prim.Native.Nat.{ℕ, suc, ◌+◌, ◌<◌, ◌≤◌}
+use Prim.Native.Nat.{ℕ, ◌+◌, ◌<◌, ◌≤◌}
 use native.Mathlib.Omega.{arith}
 use lib.Dec.{leb, ltb}
-use lib.ListN.{length, set, length-append}
-use lib.Seq.{sets-eq}
+use lib.ListN.{length, set, drop, length-append, length-drop}
 use borrow.Author.Tests.{le-leb, lt-leb, lt-ltb, le-ltb}
 use Rattle.base.specs.Outcome.{Outcome, done, refused, and_then}
 use Rattle.base.specs.Refusals.{number}
 use Rattle.base.specs.declared.Refusal.{Refusal}
+use Rattle.base.specs.declared.Refusal.TheVariants.{Field}
 use Rattle.base.proofs.Ladders.{never, done_is, refused_is, need_yes, need_no, need_done, then_done}
 use Rattle.scale.specs.Time.{Time}
 use Rattle.octets.specs.Places.{digit_of, digits}
 use Rattle.octets.specs.Stores.{pasted, Stored}
 use Rattle.octets.specs.Writes.{roomed, Wrote}
-use Rattle.octets.specs.declared.Written.{Written}
-use Rattle.octets.specs.declared.Written.TheVariants.{Done, Refused}
 use Rattle.octets.proofs.Places.{length_places}
-use Rattle.octets.proofs.Writes.{room_in}
-use Rattle.octets.proofs.Pastes.{length_pasted, paste_one, then, stored}
+use Rattle.octets.proofs.Writes.{refuses, room_in}
+use Rattle.octets.proofs.Pastes.{length_pasted, paste_first, paste_one, then, stored}
 use Rattle.shape.specs.Quoted.{bytes}
 use Rattle.ascii.specs.Ascii.{width}
 use Rattle.leap.specs.Builtin.{builtin}
 use Rattle.codes.specs.Text.{text_of, letters}
 use Rattle.codes.proofs.Texts.{write_width}
-use Rattle.codes.specs.Setting.{default_layout}
+use Rattle.codes.specs.Setting.{default_layout, wall_of}
 use Rattle.lines.specs.Answer.{figures, printed, outcome_of, answer_of}
+use Rattle.std.specs.Prelude.{Result, Ok, Err}
 
 -- ---- a refusal
 pub figures_in : (n : ℕ) → (1 ≤ figures n) × (figures n ≤ 2)
@@ -52,20 +51,6 @@ pub length_refused : (n : ℕ) → length (printed (refused n)) ≡ 9 + figures 
 unfolding printed
 length_refused n = simp length-append (omega (arith, length_places 10 digit_of (figures n) n))
 
--- the eight stores
-pub stored_word : (d : List ℕ) (at : ℕ) → at + 8 ≤ length d
-    → set (set (set (set (set (set (set (set d at 114) (at + 1) 101) (at + 2) 102) (at + 3) 117) (at + 4) 115) (at + 5) 101) (at + 6) 100) (at + 7) 32 ≡ pasted d at (bytes "refused ")
-unfolding pasted
-stored_word d at h =
-    let e1 : at + 1 ≡ suc at = omega arith in
-    let e2 : at + 2 ≡ suc (suc at) = omega arith in
-    let e3 : at + 3 ≡ suc (suc (suc at)) = omega arith in
-    let e4 : at + 4 ≡ suc (suc (suc (suc at))) = omega arith in
-    let e5 : at + 5 ≡ suc (suc (suc (suc (suc at)))) = omega arith in
-    let e6 : at + 6 ≡ suc (suc (suc (suc (suc (suc at))))) = omega arith in
-    let e7 : at + 7 ≡ suc (suc (suc (suc (suc (suc (suc at)))))) = omega arith in
-    rw (e1, e2, e3, e4, e5, e6, e7) (sets-eq (bytes "refused ") d at h)
-
 -- the word, the number and the line feed, one after another
 pub stored_refusal : (d a b : List ℕ) (at n w : ℕ) → at + 80 ≤ length d → a ≡ pasted d at (bytes "refused ") → b ≡ pasted a (at + 8) (digits (figures n) n) → w ≡ figures n
     → (at + 8 + w < length b) × (set b (at + 8 + w) 10 ≡ pasted d at (printed (refused n)))
@@ -79,6 +64,14 @@ stored_refusal d a b at n w h e f g =
     let s : set b (at + 8 + w) 10 ≡ pasted b (at + 8 + w) (10 ∷ []) = paste_one b (at + 8 + w) 10 (omega arith) in
     (omega arith, then d (bytes "refused ") (t ++ 10 ∷ []) at (at + 8) e (then a t (10 ∷ []) (at + 8) (at + 8 + w) f s (omega arith) (omega arith)) (omega arith) (omega arith))
 
+-- the same, as the code puts them into the first bytes
+pub told : (d a b : List ℕ) (n m w : ℕ) (r : Bool) → 80 ≤ length d → a ≡ bytes "refused " → Stored (digits w m) 8 (a ++ drop 8 d) b r → m ≡ n → w ≡ figures n
+    → (8 + w + 1 ≡ length (printed (refused n))) × (set b (8 + w) 10 ≡ pasted d 0 (printed (refused n)))
+told d a b n m w r h e s k l =
+    let f : a ++ drop 8 d ≡ pasted d 0 (bytes "refused ") = rw e (sym (paste_first d (bytes "refused "))) in
+    let (_, g) = put_figures (a ++ drop 8 d) b 8 n l (omega (arith, length-append a (drop 8 d), length-drop 8 d, ap length e)) (rw k at s) in
+    (omega (arith, length_refused n), (stored_refusal d (a ++ drop 8 d) b 0 n w h f g l).1)
+
 -- ---- the outcome of a line
 pub of_long : (p : List ℕ) → 64 < length p → outcome_of builtin p ≡ refused 4
 unfolding outcome_of
@@ -87,6 +80,16 @@ of_long p h = need_no 4 _ (lt-leb (length p) 64 h)
 pub of_read : (p : List ℕ) → length p ≤ 64 → (x : Outcome Time) → x ≡ text_of builtin p → outcome_of builtin p ≡ and_then x (letters builtin default_layout)
 unfolding outcome_of
 of_read p h x e = need_yes 4 _ (le-leb (length p) 64 h) ∙ ap (λ (y : Outcome Time). and_then y (letters builtin default_layout)) (sym e)
+
+-- ---- a line rewritten, by what its reading tells
+pub long_refused : (p d : List ℕ) → 64 < length p → Wrote (and_then (outcome_of builtin p) (roomed d 0)) 0 d d (Err Field)
+long_refused p d h = refuses Field _ 0 d (ap (λ (x : Outcome (List ℕ)). and_then x (roomed d 0)) (of_long p h))
+
+pub read_refused : (p d : List ℕ) (why : Refusal) → length p ≤ 64 → refused (number why) ≡ text_of builtin p → Wrote (and_then (outcome_of builtin p) (roomed d 0)) 0 d d (Err why)
+read_refused p d why h e = refuses why _ 0 d (ap (λ (x : Outcome (List ℕ)). and_then x (roomed d 0)) (of_read p h (refused (number why)) e))
+
+pub read_written : (p d e : List ℕ) (t : Time) (a : Result ℕ Refusal) → length p ≤ 64 → done t ≡ text_of builtin p → Wrote (wall_of builtin t d) 0 d e a → Wrote (and_then (outcome_of builtin p) (roomed d 0)) 0 d e a
+read_written p d e t a h f w = rw (of_read p h (done t) f) w
 
 -- a code of the default layout has 24 bytes
 pub length_code : (t : Time) (code : List ℕ) → letters builtin default_layout t ≡ done code → length code ≡ 24
@@ -98,7 +101,7 @@ unfolding printed
 length_printed (done code) h = omega (arith, length-append code (10 ∷ []), h code refl)
 length_printed (refused n) h = omega (arith, length_refused n, figures_in n)
 
-done_length : (p code : List ℕ) → outcome_of builtin p ≡ done code → length code ≡ 24
+pub done_length : (p code : List ℕ) → outcome_of builtin p ≡ done code → length code ≡ 24
 unfolding outcome_of
 done_length p code e =
     let (t, (f, g)) = then_done (text_of builtin p) (letters builtin default_layout) code (need_done (leb (length p) 64) 4 _ code e).1 in
@@ -118,18 +121,18 @@ module _ (x : Outcome (List ℕ)) (at : ℕ) (old : List ℕ) (room : at + 80 �
   roomy (done code) e = room_in code at old (omega (arith, size code e))
   roomy (refused n) e = refl
 
-  pub refused_line : (why : Refusal) (new : List ℕ) (a : Written) → a ≡ Refused why → Wrote (and_then x (roomed old at)) at old new a → (new ≡ old) × (x ≡ refused (number why))
+  pub refused_line : (why : Refusal) (new : List ℕ) (a : Result ℕ Refusal) → a ≡ Err why → Wrote (and_then x (roomed old at)) at old new a → (new ≡ old) × (x ≡ refused (number why))
   refused_line why new a f w = go x refl (rw (roomy x refl, f) at w)
     where
-      go : (y : Outcome (List ℕ)) → x ≡ y → Wrote y at old new (Refused why) → (new ≡ old) × (x ≡ refused (number why))
+      go : (y : Outcome (List ℕ)) → x ≡ y → Wrote y at old new (Err why) → (new ≡ old) × (x ≡ refused (number why))
       go (done code) e v = never (number why) _ v.answer
       go (refused n) e v = (v.bytes, e ∙ ap refused (sym (refused_is (number why) n v.answer)))
 
-  pub written_line : (end : ℕ) (new : List ℕ) (a : Written) → a ≡ Done end → Wrote (and_then x (roomed old at)) at old new a → Shown x at old new end
+  pub written_line : (end : ℕ) (new : List ℕ) (a : Result ℕ Refusal) → a ≡ Ok end → Wrote (and_then x (roomed old at)) at old new a → Shown x at old new end
   unfolding printed
   written_line end new a f w = go x refl (rw (roomy x refl, f) at w)
     where
-      go : (y : Outcome (List ℕ)) → x ≡ y → Wrote y at old new (Done end) → Shown x at old new end
+      go : (y : Outcome (List ℕ)) → x ≡ y → Wrote y at old new (Ok end) → Shown x at old new end
       go (done code) e v =
           let n : end ≡ at + length code = done_is end (at + length code) v.answer in
           let k = size code e in

@@ -2,32 +2,59 @@
 #![tactic(auto)]
 
 ghost use Rattle.std.specs.Prelude.{◌≡◌, [], ◌++◌, ◌+◌, ◌-◌, ◌≤◌, min, length, drop, take, get_or};
-ghost use Rattle.base.specs.Outcome.{refused};
+ghost use Rattle.base.specs.Outcome.{refused, and_then};
 ghost use Rattle.base.specs.Refusals.{number};
 ghost use Rattle.octets.specs.Stores.{pasted};
-ghost use Rattle.scale.specs.Answers.{recorded};
+ghost use Rattle.octets.specs.Writes.{roomed, Wrote};
 ghost use Rattle.leap.specs.Builtin.{builtin};
-ghost use Rattle.codes.specs.Text.{letters};
-ghost use Rattle.codes.specs.Setting.{default_layout};
-ghost use Rattle.octets.specs.Places.{digits};
-ghost use Rattle.shape.specs.Quoted.{bytes};
-ghost use Rattle.lines.specs.Answer.{figures, printed, answer_of};
+ghost use Rattle.lines.specs.Answer.{printed, outcome_of, answer_of};
 ghost use Rattle.lines.specs.Split.{before, fate, after, kept, ending};
 ghost use Rattle.lines.specs.Says.{line_of, held_of, Fares, Ends};
 
 use base::Refusal;
-use octets::Written;
-use scale::{Record, RecordAnswer};
 
-// The line so far: the first len of bytes, its first 65 at most.
-#[derive(Clone, Copy)]
+// A longer line is refused.
+const LONGEST: usize = 64;
+
+// So many bytes of a line are held: with one more than the longest has, what follows does not matter.
+const HELD: usize = LONGEST + 1;
+
+// The room that is asked for an answer, which has 25 bytes at most.
+const ROOM: usize = 80;
+
+// The line so far: the first len of bytes, its first 65 at most. A buffer with a length beside it: the library has no heap.
+#[derive(Clone, Copy, Debug, PartialEq, Eq)]
 pub struct Line {
-    pub bytes: [u8; 65],
+    pub bytes: [u8; HELD],
     pub len: usize,
 }
 
+impl Line {
+    // What is held of the line.
+    fn held(&self) -> &[u8]
+        ensures { result.now ≡ held_of self.now }
+    {
+        &self.bytes[..self.len.min(HELD)]
+    }
+
+    // The line with more bytes behind it.
+    fn join(self, part: &[u8]) -> Line
+        ensures { result ≡ line_of (kept (held_of self ++ part.now)) }
+    {
+        let n = self.len.min(HELD);
+        let more = part.len().min(HELD - n);
+        let mut bytes = [0u8; HELD];
+        bytes[..n].copy_from_slice(&self.bytes[..n]);
+        bytes[n..n + more].copy_from_slice(&part[..more]);
+        Line {
+            bytes,
+            len: n + more,
+        }
+    }
+}
+
 // What a piece came to: the line so far, the bytes written, and how many bytes of the piece were used.
-#[derive(Clone, Copy)]
+#[derive(Clone, Copy, Debug, PartialEq, Eq)]
 pub struct Fed {
     pub line: Line,
     pub wrote: usize,
@@ -39,7 +66,7 @@ pub fn start() -> Line
     ensures { result ≡ line_of [] }
 {
     Line {
-        bytes: [0u8; 65],
+        bytes: [0u8; HELD],
         len: 0,
     }
 }
@@ -49,22 +76,15 @@ pub fn feed(line: Line, piece: &[u8], out: &mut [u8]) -> Fed
     ensures { Fares (fate builtin (held_of line) piece.now (length out.old)) piece.now out.old out.new result }
 {
     let end = find(piece, 0);
-    let first = join(line, &piece[..end]);
-    if end == piece.len() {
+    let first = line.join(&piece[..end]);
+    if end == piece.len() || out.len() < ROOM {
         return Fed {
             line: first,
             wrote: 0,
             used: end,
         };
     }
-    if out.len() < 80 {
-        return Fed {
-            line: first,
-            wrote: 0,
-            used: end,
-        };
-    }
-    let wrote = answer_held(first, out);
+    let wrote = answer(first.held(), out);
     go_on(piece, end + 1, out, wrote)
 }
 
@@ -72,13 +92,10 @@ pub fn feed(line: Line, piece: &[u8], out: &mut [u8]) -> Fed
 pub fn finish(line: Line, out: &mut [u8]) -> usize
     ensures { Ends (ending builtin (held_of line) (length out.old)) out.old out.new result }
 {
-    if out.len() < 80 {
+    if out.len() < ROOM || line.len == 0 {
         return 0;
     }
-    if line.len == 0 {
-        return 0;
-    }
-    answer_held(line, out)
+    answer(line.held(), out)
 }
 
 // The lines of a piece from a place on, each answered straight from the piece, into out from `at` on.
@@ -89,26 +106,15 @@ fn go_on(piece: &[u8], from: usize, out: &mut [u8], at: usize) -> Fed
     let mut begin = from;
     let mut wrote = at;
     let mut end = find(piece, begin);
-    while end < piece.len() {
-        if out.len() - wrote < 80 {
-            return stop(piece, begin, end, wrote);
-        }
-        wrote = answer(&piece[begin..end], out, wrote);
+    // by places, since the caller is told how much of the piece was used
+    while end < piece.len() && ROOM <= out.len() - wrote {
+        wrote += answer(&piece[begin..end], &mut out[wrote..]);
         begin = end + 1;
         end = find(piece, begin);
     }
-    stop(piece, begin, end, wrote)
-}
-
-// Holds what stands in a piece from one place to another, and uses no more of it.
-fn stop(piece: &[u8], begin: usize, end: usize, wrote: usize) -> Fed
-    requires { (begin ≤ end) × (end ≤ length piece.now) }
-    ensures { result ≡ record { line = line_of (kept (take (end - begin) (drop begin piece.now))); wrote = wrote; used = end } }
-{
-    let line = join(start(), &piece[begin..end]);
     Fed {
-        line: line,
-        wrote: wrote,
+        line: start().join(&piece[begin..end]),
+        wrote,
         used: end,
     }
 }
@@ -118,122 +124,46 @@ fn find(s: &[u8], from: usize) -> usize
     requires { from ≤ length s.now }
     ensures { (result ≡ from + before (drop from s.now)) × (from ≤ result) × (result ≤ length s.now) }
 {
-    let mut i = from;
-    while i < s.len() {
-        if s[i] == 10 {
-            return i;
-        }
-        i += 1;
-    }
-    i
+    let rest = &s[from..];
+    from + rest.iter().position(|&b| b == b'\n').unwrap_or(rest.len())
 }
 
-fn least(a: usize, b: usize) -> usize
-    ensures { result ≡ min a b }
-{
-    if a < b { a } else { b }
-}
-
-// The byte at a place, or 0 past the end.
-fn byte_at(s: &[u8], i: usize) -> u8
-    ensures { result ≡ get_or s.now i 0 }
-{
-    if i < s.len() { s[i] } else { 0 }
-}
-
-// A line with more bytes behind it.
-fn join(line: Line, part: &[u8]) -> Line
-    ensures { result ≡ line_of (kept (held_of line ++ part.now)) }
-{
-    let mut bytes = line.bytes;
-    let n = least(line.len, 65);
-    let more = least(part.len(), 65 - n);
-    let mut i = n;
-    while i < 65 {
-        bytes[i] = byte_at(part, i - n);
-        i += 1;
-    }
-    Line {
-        bytes: bytes,
-        len: n + more,
-    }
-}
-
-// What is printed for a held line, into the first bytes of out; and how many bytes that is.
-fn answer_held(line: Line, out: &mut [u8]) -> usize
+// What is printed for one line, into the first bytes of out; and how many bytes that is.
+fn answer(line: &[u8], out: &mut [u8]) -> usize
     requires { 80 ≤ length out.old }
-    ensures { (result ≡ length (answer_of builtin (held_of line))) × (out.new ≡ pasted out.old 0 (answer_of builtin (held_of line))) }
+    ensures { (result ≡ length (answer_of builtin line.now)) × (out.new ≡ pasted out.old 0 (answer_of builtin line.now)) }
 {
-    let bytes = line.bytes;
-    let len = least(line.len, 65);
-    answer(&bytes[..len], out, 0)
-}
-
-// What is printed for one line, into out from `at` on; and where that ends.
-fn answer(line: &[u8], out: &mut [u8], at: usize) -> usize
-    requires { at + 80 ≤ length out.old }
-    ensures { (result ≡ at + length (answer_of builtin line.now)) × (out.new ≡ pasted out.old at (answer_of builtin line.now)) }
-{
-    if 64 < line.len() {
-        return refuse(Refusal::Field, out, at);
-    }
-    let read = codes::text::read(line);
-    match read {
-        RecordAnswer::Refused(why) => refuse(why, out, at),
-        RecordAnswer::Done(r) => print(r, out, at),
-    }
-}
-
-// A record in the default setting and the line feed, into out from `at` on; and where that ends.
-fn print(r: Record, out: &mut [u8], at: usize) -> usize
-    requires { at + 80 ≤ length out.old }
-    ensures { (result ≡ at + length (printed (letters builtin default_layout (recorded r)))) × (out.new ≡ pasted out.old at (printed (letters builtin default_layout (recorded r)))) }
-{
-    let written = codes::text::write(r, codes::setting::DEFAULT, out, at);
-    match written {
-        Written::Refused(why) => refuse(why, out, at),
-        Written::Done(end) => {
-            out[end] = 10;
+    match rewrite(line, out) {
+        Ok(end) => {
+            out[end] = b'\n';
             end + 1
         }
+        Err(why) => refuse(why, out),
     }
 }
 
-// "refused ", the number and the line feed, into out from `at` on; and where that ends.
-fn refuse(why: Refusal, out: &mut [u8], at: usize) -> usize
-    requires { at + 80 ≤ length out.old }
-    ensures { (result ≡ at + length (printed (refused (number why)))) × (out.new ≡ pasted out.old at (printed (refused (number why)))) }
+// A line's moment in the default setting, into the first bytes of out.
+fn rewrite(line: &[u8], out: &mut [u8]) -> Result<usize, Refusal>
+    ensures { Wrote (and_then (outcome_of builtin line.now) (roomed out.old 0)) 0 out.old out.new result }
+{
+    if LONGEST < line.len() {
+        return Err(Refusal::Field);
+    }
+    let r = codes::text::read(line)?;
+    codes::setting::write_wall(r, out)
+}
+
+// "refused ", the number and the line feed, into the first bytes of out; and how many bytes that is.
+fn refuse(why: Refusal, out: &mut [u8]) -> usize
+    requires { 80 ≤ length out.old }
+    ensures { (result ≡ length (printed (refused (number why)))) × (out.new ≡ pasted out.old 0 (printed (refused (number why)))) }
 {
     let n = why.number();
-    put_refused(out, at);
-    let end = at + 8 + put_number(out, at + 8, n as u64);
+    let width = if n < 10 { 1 } else { 2 };
+    let word = b"refused ";
+    let end = word.len() + width;
+    out[..word.len()].copy_from_slice(word);
+    octets::put_decimal(out, word.len(), width, u64::from(n));
     out[end] = b'\n';
     end + 1
-}
-
-fn put_refused(out: &mut [u8], at: usize)
-    requires { at + 8 ≤ length out.old }
-    ensures { out.new ≡ pasted out.old at (bytes "refused ") }
-{
-    out[at] = b'r';
-    out[at + 1] = b'e';
-    out[at + 2] = b'f';
-    out[at + 3] = b'u';
-    out[at + 4] = b's';
-    out[at + 5] = b'e';
-    out[at + 6] = b'd';
-    out[at + 7] = b' ';
-}
-
-// A number below 100 in as many digits as it has; and how many that are.
-fn put_number(out: &mut [u8], at: usize, n: u64) -> usize
-    requires { at + 2 ≤ length out.old }
-    ensures { (result ≡ figures n) × (out.new ≡ pasted out.old at (digits (figures n) n)) }
-{
-    if n < 10 {
-        octets::put_decimal(out, at, 1, n);
-        return 1;
-    }
-    octets::put_decimal(out, at, 2, n);
-    2
 }

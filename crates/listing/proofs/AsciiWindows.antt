@@ -15,7 +15,6 @@ use Rattle.leap.specs.Table.{Table, start}
 use Rattle.leap.specs.Utc.{second_raise}
 use Rattle.window.specs.Seconds.{raised_by, first_second}
 use Rattle.window.specs.Window.{Lists}
-use Rattle.window.specs.declared.Listing.{Listing}
 use Rattle.window.proofs.Seconds.{lowered_from, raised_lowered}
 use Rattle.seek.specs.declared.Wants.{Wants}
 use Rattle.seek.specs.Naming.{covers_window, list_of}
@@ -23,6 +22,9 @@ use Rattle.listing.specs.Records.{start_at, moments_in}
 use Rattle.listing.specs.AsciiTag.{onset, covered, list_wanted}
 use Rattle.listing.proofs.Windows.{Ordered, windowed_yes}
 use Rattle.listing.proofs.Records.{From, later_from, start_up}
+use Rattle.std.specs.Prelude.{Result}
+use Rattle.base.specs.declared.Refusal.{Refusal}
+use Rattle.window.specs.declared.Listed.{Listed}
 
 -- from one bias to the other
 abbrev pub second_shift : ℕ
@@ -73,7 +75,7 @@ module _ (table : Table) where
         need_yes 5 _ (and_yes _ (le-leb _ _ c.low) ∙ le-leb _ _ c.high)
         ∙ sym (windowed_yes from to _ o ∙ need_yes 5 _ e)
 
-    pub wanted_by : (x y : ℕ) {entry exit : List ℤ} {r : Listing} → Lists (list_of table g x y) entry exit r → x + second_shift ≡ start_at (2 ^ 41) g.ticks from → y + second_shift ≡ start_at (2 ^ 41) g.ticks to → Lists (list_wanted table from to g) entry exit r
+    pub wanted_by : (x y : ℕ) {entry exit : List ℤ} {r : Result Listed Refusal} → Lists (list_of table g x y) entry exit r → x + second_shift ≡ start_at (2 ^ 41) g.ticks from → y + second_shift ≡ start_at (2 ^ 41) g.ticks to → Lists (list_wanted table from to g) entry exit r
     wanted_by x y l f h =
         let c = covered_is g.ticks from to o e in
         let p : x ≡ start_at second_raise g.ticks from = omega (arith, f, start_shift g.ticks from c.starts) in

@@ -19,12 +19,11 @@ use Rattle.window.specs.Seconds.{raised_by}
 use Rattle.window.specs.Window.{Named}
 use Rattle.counter.specs.Counter.{names}
 use Rattle.octets.specs.Counts.{count_at}
-use Rattle.octets.specs.declared.Counted.TheVariants.{Done}
 use Rattle.cuc.specs.Cuc.{field, width, time_of}
 use Rattle.cuc.specs.declared.Layout as U
 use Rattle.cuc.proofs.Fields.{count_lt, field_told}
 use Rattle.cuc.proofs.Layouts.{layout_good}
-use Rattle.pfield.specs.PField.{laid, Headed, octet, headed_of}
+use Rattle.pfield.specs.PField.{laid, octet, headed_of}
 use Rattle.pfield.specs.declared.PField.{PField}
 use Rattle.pfield.specs.declared.Codes.TheVariants as Codes
 use Rattle.pfield.proofs.Heads.{given_head, octet_head}
@@ -40,6 +39,8 @@ use Rattle.listing.proofs.Windows.{Ordered, windowed_told, windowed_yes, ordered
 use Rattle.listing.proofs.Records.{inside_valid, listed_named, named_listed, ascends, adjoins}
 use Rattle.listing.proofs.CucTags.{whole, tag_good_lem}
 use Rattle.listing.proofs.CucNaming.{follows_named, named_follows, counted_follows, follows_counted, names_cut}
+use Rattle.std.specs.Prelude.{Ok}
+use Rattle.pfield.specs.declared.Head.{Head}
 
 -- ---- the listing
 -- what a tag lists of a window
@@ -121,9 +122,9 @@ pub record Made (s : List ℕ) (at : ℕ) (o : PField) (e : ℤ) (g : Periodic) 
   pub lays : laid Codes.Cuc o e ≡ done (Cuc layout)
   pub reads : field s at layout ≡ done g.first
   pub whole : ℕ
-  pub wholes : count_at s at layout.coarse ≡ Done whole
+  pub wholes : count_at s at layout.coarse ≡ Ok whole
   pub part : ℕ
-  pub parts : count_at s (at + layout.coarse) layout.fine ≡ Done part
+  pub parts : count_at s (at + layout.coarse) layout.fine ≡ Ok part
   pub ends : at + width layout ≡ length s
   pub is : record { first = time_of layout whole part; period = 256 ^ layout.coarse } ≡ g
 
@@ -153,14 +154,14 @@ made_in s at o e (Ccs l) g p h = never 2 g h
 pub made_apart : (s : List ℕ) (o : PField) (e : ℤ) (g : Periodic) → periodic_of s (Given o) e ≡ done g → Made s 0 o e g
 unfolding periodic_of
 made_apart s o e g h =
-    let (k, (p, i)) = then_done (headed_of Codes.Cuc s (Given o) e) (λ (k : Headed). tag_in s k.start k.layout) g h in
+    let (k, (p, i)) = then_done (headed_of Codes.Cuc s (Given o) e) (λ (k : Head). tag_in s k.start k.layout) g h in
     let (a, b) = given_head Codes.Cuc e s o k p in
     made_in s 0 o e k.layout g a (ap (λ (n : ℕ). tag_in s n k.layout) (sym b) ∙ i)
 
 pub made_front : (s : List ℕ) (e : ℤ) (g : Periodic) → periodic_of s Front e ≡ done g → Made s 1 (octet (get_or s 0 0)) e g
 unfolding periodic_of
 made_front s e g h =
-    let (k, (p, i)) = then_done (headed_of Codes.Cuc s Front e) (λ (k : Headed). tag_in s k.start k.layout) g h in
+    let (k, (p, i)) = then_done (headed_of Codes.Cuc s Front e) (λ (k : Head). tag_in s k.start k.layout) g h in
     let (_, a, b) = octet_head Codes.Cuc e s k p in
     made_in s 1 (octet (get_or s 0 0)) e k.layout g a (ap (λ (n : ℕ). tag_in s n k.layout) (sym b) ∙ i)
 

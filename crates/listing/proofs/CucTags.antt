@@ -1,5 +1,6 @@
 -- The ladder of a CUC tag, rung by rung; and what a tag that was read tells.
-use mathlib.Core.Path.{◌≡◌, sym, ap, ◌∙◌}
+use mathlib.Core.Path.{◌≡◌, refl, sym, ap, ◌∙◌}
+use mathlib.Core.Bool.{Bool, true, false}
 use mathlib.Core.List.{List}
 use Prim.Native.Nat.{ℕ, ◌+◌, ◌^◌, ◌<◌, ◌≤◌}
 use native.Mathlib.Omega.{arith}
@@ -13,16 +14,16 @@ use Rattle.scale.specs.Time.{Time}
 use Rattle.scale.proofs.Laws.{good_within}
 use Rattle.window.specs.Seconds.{raised_by}
 use Rattle.window.specs.Window.{Lists}
-use Rattle.window.specs.declared.Listing.{Listing}
 use Rattle.counter.specs.Counter.{list_of}
 use Rattle.counter.proofs.Laws.{good_so}
-use Rattle.cuc.specs.Cuc.{field, width}
+use Rattle.cuc.specs.Cuc.{field, width, is_width}
+use Rattle.cuc.proofs.Layouts.{width_some, width_none, widths}
 use Rattle.cuc.specs.declared.Layout as U
 use Rattle.cuc.proofs.Widths.{power_pos, power_le, power_in_lem}
 use Rattle.cuc.proofs.Fields.{field_told}
 use Rattle.cuc.proofs.Promises.{read_valid}
 use Rattle.octets.specs.Powers.{power_in}
-use Rattle.pfield.specs.PField.{Headed, headed_of}
+use Rattle.pfield.specs.PField.{headed_of}
 use Rattle.pfield.specs.declared.Codes.TheVariants as Codes
 use Rattle.pfield.specs.declared.Preamble.{Preamble}
 use Rattle.pfield.specs.declared.Layout.{Layout}
@@ -31,6 +32,10 @@ use Rattle.listing.specs.Records.{start_at, moments_in}
 use Rattle.listing.specs.CucTag.{Periodic, tag_with, tag_in, periodic_of, list_periodic}
 use Rattle.listing.specs.Inner.{Short}
 use Rattle.listing.proofs.Windows.{Ordered, windowed_yes, start_low}
+use Rattle.std.specs.Prelude.{Result}
+use Rattle.base.specs.declared.Refusal.{Refusal}
+use Rattle.pfield.specs.declared.Head.{Head}
+use Rattle.window.specs.declared.Listed.{Listed}
 
 -- ---- the rungs
 module _ (s : List ℕ) (at : ℕ) (l : U.Layout) where
@@ -77,7 +82,7 @@ tag_in_lem s at (Ccs l) g h = never 2 g h
 pub tag_good_lem : (s : List ℕ) (p : Preamble) (e : ℤ) (g : Periodic) → periodic_of s p e ≡ done g → Short g
 unfolding periodic_of
 tag_good_lem s p e g h =
-    let (k, (_, i)) = then_done (headed_of Codes.Cuc s p e) (λ (k : Headed). tag_in s k.start k.layout) g h in
+    let (k, (_, i)) = then_done (headed_of Codes.Cuc s p e) (λ (k : Head). tag_in s k.start k.layout) g h in
     tag_in_lem s k.start k.layout g i
 
 -- what the counter lists from the tag's second on, between the window's ends, is the tag's listing
@@ -95,5 +100,20 @@ module _ (from to : Time) (g : Periodic) (t : Short g) (o : Ordered from to) whe
       }))
       ∙ sym (windowed_yes from to _ o)
 
-  pub lists_by : {b x y : ℕ} {entry exit : List ℤ} {r : Listing} → Lists (list_of b g.period x y g.first.ticks) entry exit r → start_at (2 ^ 41) g.first.ticks from ≡ x → start_at (2 ^ 41) g.first.ticks to ≡ y → b ≡ raised_by (2 ^ 41) g.first.sec → Lists (list_periodic from to g) entry exit r
+  pub lists_by : {b x y : ℕ} {entry exit : List ℤ} {r : Result Listed Refusal} → Lists (list_of b g.period x y g.first.ticks) entry exit r → start_at (2 ^ 41) g.first.ticks from ≡ x → start_at (2 ^ 41) g.first.ticks to ≡ y → b ≡ raised_by (2 ^ 41) g.first.sec → Lists (list_periodic from to g) entry exit r
   lists_by l f h e = rw (← periodic_lists, f, h, ← e) l
+
+-- a T-field is short
+pub width_low : (l : U.Layout) → width l ≤ 13
+width_low l = low (is_width l) refl
+  where
+    low : (b : Bool) → is_width l ≡ b → width l ≤ 13
+    low true e = omega (arith, width_some l e, widths l e)
+    low false e = omega (arith, width_none l e)
+
+-- any other code is 2
+pub other_tag : (s : List ℕ) (at : ℕ) (l : Layout) → ((u : U.Layout) → l ≡ Cuc u → ⊥) → tag_in s at l ≡ refused 2
+unfolding tag_in
+other_tag s at (Cuc u) h = absurd (h u refl)
+other_tag s at (Cds u) h = refl
+other_tag s at (Ccs u) h = refl

@@ -13,7 +13,8 @@ use Rattle.scale.proofs.Laws.{good_within, earlier_worth}
 use Rattle.window.specs.Seconds.{raised_by}
 use Rattle.window.proofs.Ticks.{first_near}
 use Rattle.listing.specs.Records.{windowed, start_at}
-use Rattle.listing.specs.Ends.{Stretch, ends_of}
+use Rattle.listing.specs.Ends.{ends_of}
+use Rattle.listing.specs.declared.ends.Ends.{Ends}
 
 -- a window whose ends are records in their order
 pub record Ordered (from to : Time) : Type 0 where
@@ -56,7 +57,7 @@ unfolding ends_of
 ends_told from to k a b h =
     let (o, e) = windowed_told from to _ _ h in
     let f = done_is _ _ e in
-    (o, ap (λ (x : Stretch). x.start) f, ap (λ (x : Stretch). x.end) f)
+    (o, ap (λ (x : Ends). x.start) f, ap (λ (x : Ends). x.end) f)
 
 pub ends_refused : {B : Type 0} (from to : Time) (k n : ℕ) (y : Outcome B) → ends_of from to k ≡ refused n → windowed from to y ≡ refused n
 unfolding ends_of

@@ -1,15 +1,18 @@
 -- What the private functions ask and answer. No promise cites these.
-use Rattle.std.specs.Prelude.{◌^◌, ◌<◌, ◌≤◌}
-use Rattle.base.specs.Outcome.{Outcome, done, refused}
-use Rattle.base.specs.Refusals.{number}
+use Rattle.std.specs.Prelude.{◌^◌, ◌<◌, ◌≤◌, Result}
+use Rattle.base.specs.Outcome.{Outcome}
+use Rattle.base.specs.Said.{says}
+use Rattle.listing.specs.declared.periodic.Periodic as P
 use Rattle.scale.specs.Answers.{recorded}
 use Rattle.scale.specs.Inner.{Within}
 use Rattle.listing.specs.CucTag.{Periodic}
-use Rattle.listing.specs.declared.periodic.Periodic as P
+use Rattle.base.specs.declared.Refusal.{Refusal}
 
-abbrev pub says_periodic : P.Periodic → Outcome Periodic
-says_periodic (P.TheVariants.Done r n) = done (record { first = recorded r; period = n })
-says_periodic (P.TheVariants.Refused why) = refused (number why)
+abbrev pub periodic_as : P.Periodic → Periodic
+periodic_as g = record { first = recorded g.first; period = g.period }
+
+abbrev pub says_periodic : Result P.Periodic Refusal → Outcome Periodic
+says_periodic r = says periodic_as r
 
 -- a first moment that is a record, and a period that the counter takes
 pub record Short (g : Periodic) : Type 0 where

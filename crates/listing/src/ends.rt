@@ -3,32 +3,36 @@ ghost use Rattle.std.specs.Prelude.{◌≡◌, ◌^◌};
 ghost use Rattle.scale.specs.Answers.{recorded};
 ghost use Rattle.scale.specs.Inner.{Within};
 ghost use Rattle.listing.specs.Records.{start_at};
-ghost use Rattle.listing.specs.Ends.{says_ends, ends_of};
+ghost use Rattle.listing.specs.Ends.{ends_of};
+ghost use Rattle.base.specs.Said.{said};
 
 use base::Refusal;
 use scale::Record;
 
 // The seconds, raised by 2^41, from which on and before which a moment with the tick count is in the window.
 #[derive(Clone, Copy)]
-pub enum Ends {
-    At(u64, u64),
-    Refused(Refusal),
+pub struct Ends {
+    pub start: u64,
+    pub end: u64,
 }
 
 // Both must be records, and the end not before the start.
-pub fn at_tick(from: Record, to: Record, ticks: u64) -> Ends
-    ensures { says_ends result ≡ ends_of (recorded from) (recorded to) ticks }
+pub fn at_tick(from: Record, to: Record, ticks: u64) -> Result<Ends, Refusal>
+    ensures { said result ≡ ends_of (recorded from) (recorded to) ticks }
 {
     if !from.valid() {
-        return Ends::Refused(Refusal::Range);
+        return Err(Refusal::Range);
     }
     if !to.valid() {
-        return Ends::Refused(Refusal::Range);
+        return Err(Refusal::Range);
     }
     if scale::before(to, from) {
-        return Ends::Refused(Refusal::Window);
+        return Err(Refusal::Window);
     }
-    Ends::At(start(from, ticks), start(to, ticks))
+    Ok(Ends {
+        start: start(from, ticks),
+        end: start(to, ticks),
+    })
 }
 
 // The first second, raised by 2^41, whose moment with the tick count is not before r.

@@ -1,52 +1,38 @@
 // A CUC tag, read: the first moment that it names, and the seconds after which the next follows.
 ghost use Rattle.std.specs.Prelude.{◌≡◌, ◌≤◌};
-ghost use Rattle.listing.specs.CucTag.{tag_with, tag_in, periodic_of};
+ghost use Rattle.listing.specs.CucTag.{tag_with, periodic_of};
 ghost use Rattle.listing.specs.Inner.{says_periodic};
 
 use base::Refusal;
 use pfield::{Codes, Head, Layout, Preamble};
-use scale::{Record, RecordAnswer};
+use scale::Record;
 
 #[derive(Clone, Copy)]
-pub enum Periodic {
-    Done(Record, u64),
-    Refused(Refusal),
+pub struct Periodic {
+    pub first: Record,
+    pub period: u64,
 }
 
-pub fn read(tag: &[u8], p: Preamble, epoch: i64) -> Periodic
+pub fn read(tag: &[u8], p: Preamble, epoch: i64) -> Result<Periodic, Refusal>
     ensures { says_periodic result ≡ periodic_of tag.now p epoch }
 {
-    match pfield::read(tag, p, Codes::Cuc, epoch) {
-        Head::Refused(why) => Periodic::Refused(why),
-        Head::Done(l, at) => read_in(tag, at, l),
-    }
-}
-
-fn read_in(tag: &[u8], at: usize, l: Layout) -> Periodic
-    requires { at ≤ 1 }
-    ensures { says_periodic result ≡ tag_in tag.now at l }
-{
-    match l {
-        Layout::Cuc(c) => read_with(tag, at, c),
-        Layout::Cds(_) => Periodic::Refused(Refusal::Identification),
-        Layout::Ccs(_) => Periodic::Refused(Refusal::Identification),
-    }
+    let Head { layout, start } = pfield::read(tag, p, Codes::Cuc, epoch)?;
+    let Layout::Cuc(layout) = layout else {
+        return Err(Refusal::Identification);
+    };
+    read_with(tag, start, layout)
 }
 
 // The T-field from `at` on, which must end with the tag.
-fn read_with(tag: &[u8], at: usize, c: cuc::Layout) -> Periodic
+fn read_with(tag: &[u8], at: usize, layout: cuc::Layout) -> Result<Periodic, Refusal>
     requires { at ≤ 1 }
-    ensures { says_periodic result ≡ tag_with tag.now at c }
+    ensures { says_periodic result ≡ tag_with tag.now at layout }
 {
-    let end = at + cuc::size(c);
-    let coarse = c.coarse;
-    match cuc::read(tag, at, c) {
-        RecordAnswer::Refused(why) => Periodic::Refused(why),
-        RecordAnswer::Done(first) => {
-            if end < tag.len() {
-                return Periodic::Refused(Refusal::Field);
-            }
-            Periodic::Done(first, octets::power256(coarse))
-        }
+    let first = cuc::read(tag, at, layout)?;
+    let end = at + cuc::size(layout);
+    if end < tag.len() {
+        return Err(Refusal::Field);
     }
+    let period = octets::power256(layout.coarse);
+    Ok(Periodic { first, period })
 }

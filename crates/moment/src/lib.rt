@@ -9,27 +9,20 @@ use base::Refusal;
 use scale::Record;
 
 // A day counted from 1958-01-01, a second of it (86,400 is 23:59:60), and ticks of that second.
-#[derive(Clone, Copy)]
+#[derive(Clone, Copy, Debug, PartialEq, Eq)]
 pub struct Moment {
     pub day: i64,
     pub second: u64,
     pub ticks: u64,
 }
 
-#[derive(Clone, Copy)]
-pub enum MomentAnswer {
-    Done(Moment),
-    Refused(Refusal),
-}
-
 impl Moment {
     // Whether some day can have such a second, and a second such ticks.
+    #[tactic(auto, unfolding(crate::specs::Moment::is_moment))]
     pub fn valid(self) -> bool
         ensures { result ≡ is_moment self }
     {
-        let second = self.second;
-        let ticks = self.ticks;
-        (second <= 86400) & (ticks < Record::TICKS)
+        self.second <= 86400 && self.ticks < Record::TICKS
     }
 }
 
@@ -37,9 +30,9 @@ impl Moment {
 pub fn decimal_unit(d: usize) -> u64
     ensures { result ≡ per_second / 10 ^ d }
 {
-    if 19 < d {
-        return 0;
+    if d < 20 {
+        Record::TICKS / octets::power10(d)
+    } else {
+        0
     }
-    let power = octets::power10(d);
-    Record::TICKS / power
 }

@@ -12,9 +12,13 @@ use lib.Seq.{get_or-drop}
 use Rattle.base.proofs.Bools.{and_true, and_yes, cond_yes, cond_no, never_both}
 use Rattle.octets.specs.Places.{number, places, all_good, octet_good}
 use Rattle.octets.specs.Counts.{count_of, count_at}
-use Rattle.octets.specs.declared.Counted.{Counted}
-use Rattle.octets.specs.declared.Counted.TheVariants.{Done, Bad, Out}
+use Rattle.std.specs.Prelude.{Result, Ok, Err}
+use Rattle.base.specs.declared.Refusal.{Refusal}
+use Rattle.base.specs.declared.Refusal.TheVariants.{Short, Field}
 use Rattle.octets.proofs.Places.{Rule, number_lt, number_append, number_places, places_number, places_good, length_places, good_append, not_good, all_good_lem}
+
+never_err : {A : Type 0} (why : Refusal) (a : A) → ◌≡◌ {A = Result A Refusal} (Ok a) (Err why) → ⊥
+never_err why a e = grind arith
 
 -- n is what the first i of w elements from `at` on write, and these are good
 pub record Read (b : ℕ) (v : ℕ → ℕ) (ok : ℕ → Bool) (widest : ℕ) (s : List ℕ) (at w n i : ℕ) : Type 0 where
@@ -28,15 +32,15 @@ module _ {b : ℕ} {v : ℕ → ℕ} {ok : ℕ → Bool} {widest : ℕ} {s : Lis
   held : leb w widest && leb (at + w) (length s) ≡ true
   held = and_yes _ (le-leb w widest r.narrow) ∙ le-leb (at + w) (length s) r.within
 
-  pub gives_done : w ≤ i → Done n ≡ count_of b v ok widest s at w
+  pub gives_ok : w ≤ i → Ok n ≡ count_of b v ok widest s at w
   unfolding count_of
-  gives_done h =
+  gives_ok h =
       let e : i ≡ w = omega arith in
-      sym (cond_yes _ _ held ∙ cond_yes _ _ (rw e at r.good) ∙ ap Done (sym (rw e at r.is)))
+      sym (cond_yes _ _ held ∙ cond_yes _ _ (rw e at r.good) ∙ ap Ok (sym (rw e at r.is)))
 
-  pub gives_bad : i < w → ok (get_or s (at + i) 0) ≡ false → Bad ≡ count_of b v ok widest s at w
+  pub gives_field : i < w → ok (get_or s (at + i) 0) ≡ false → Err Field ≡ count_of b v ok widest s at w
   unfolding count_of
-  gives_bad h g = sym (cond_yes _ _ held ∙ cond_no _ _ (not_good ok (drop at s) w i h (rw get_or-drop g)))
+  gives_field h g = sym (cond_yes _ _ held ∙ cond_no _ _ (not_good ok (drop at s) w i h (rw get_or-drop g)))
 
   pub read_lt : {p : ℕ → ℕ} → Rule b v p ok → n < b ^ i
   read_lt rule = rw r.is (number_lt rule (drop at s) i r.good)
@@ -47,20 +51,21 @@ module _ {b : ℕ} {v : ℕ → ℕ} {ok : ℕ → Bool} {widest : ℕ} {s : Lis
       sym (ap (places b p i) r.is ∙ places_number rule (drop at s) i (let z : i ≤ length (drop at s) = simp length-drop (omega arith) in z) r.good)
 
 module _ (b : ℕ) (v : ℕ → ℕ) (ok : ℕ → Bool) (widest : ℕ) (s : List ℕ) (at w : ℕ) where
-  pub gives_out : leb w widest && leb (at + w) (length s) ≡ false → Out ≡ count_of b v ok widest s at w
+  pub gives_short : leb w widest && leb (at + w) (length s) ≡ false → Err Short ≡ count_of b v ok widest s at w
   unfolding count_of
-  gives_out e = sym (cond_no _ _ e)
+  gives_short e = sym (cond_no _ _ e)
 
-  abbrev pub Told : Counted → Type 0
-  Told (Done n) = Read b v ok widest s at w n w
-  Told Bad = (leb w widest && leb (at + w) (length s) ≡ true) × (all_good ok (drop at s) w ≡ false)
-  Told Out = leb w widest && leb (at + w) (length s) ≡ false
+  abbrev pub Told : Result ℕ Refusal → Type 0
+  Told (Ok n) = Read b v ok widest s at w n w
+  Told (Err Field) = (leb w widest && leb (at + w) (length s) ≡ true) × (all_good ok (drop at s) w ≡ false)
+  Told (Err Short) = leb w widest && leb (at + w) (length s) ≡ false
+  Told (Err why) = ⊥
 
-  pub told : (r : Counted) → count_of b v ok widest s at w ≡ r → Told r
+  pub told : (r : Result ℕ Refusal) → count_of b v ok widest s at w ≡ r → Told r
   unfolding count_of
   told r e = subst Told e (go (leb w widest && leb (at + w) (length s)) (all_good ok (drop at s) w) refl refl)
     where
-      go : (t g : Bool) → leb w widest && leb (at + w) (length s) ≡ t → all_good ok (drop at s) w ≡ g → Told (cond t (cond g (Done (number b v (drop at s) w)) Bad) Out)
+      go : (t g : Bool) → leb w widest && leb (at + w) (length s) ≡ t → all_good ok (drop at s) w ≡ g → Told (cond t (cond g (Ok (number b v (drop at s) w)) (Err Field)) (Err Short))
       go true true p q =
           let h = and_true (leb w widest) (leb (at + w) (length s)) p in
           record { narrow = leb-true _ _ h.0; within = leb-true _ _ h.1; part = le_refl w; is = refl; good = q }
@@ -68,20 +73,37 @@ module _ (b : ℕ) (v : ℕ → ℕ) (ok : ℕ → Bool) (widest : ℕ) (s : Lis
       go false g p q = p
 
   -- at a width that is not too great, the bytes ran out
-  pub told_short : w ≤ widest → count_of b v ok widest s at w ≡ Out → length s < at + w
-  told_short h e = leb-false (at + w) (length s) (sym (and_yes _ (le-leb w widest h)) ∙ told Out e)
+  pub told_short : w ≤ widest → count_of b v ok widest s at w ≡ Err Short → length s < at + w
+  told_short h e = leb-false (at + w) (length s) (sym (and_yes _ (le-leb w widest h)) ∙ told (Err Short) e)
+
+  -- bytes that are there are refused for an element that breaks its rule
+  pub told_err : (why : Refusal) → w ≤ widest → at + w ≤ length s → count_of b v ok widest s at w ≡ Err why → all_good ok (drop at s) w ≡ false
+  unfolding count_of
+  told_err why h k e = go (all_good ok (drop at s) w) refl
+    where
+      held : leb w widest && leb (at + w) (length s) ≡ true
+      held = and_yes _ (le-leb w widest h) ∙ le-leb (at + w) (length s) k
+
+      go : (g : Bool) → all_good ok (drop at s) w ≡ g → all_good ok (drop at s) w ≡ false
+      go true q = absurd (never_err why (number b v (drop at s) w) (sym (cond_yes _ _ held ∙ cond_yes _ _ q) ∙ e))
+      go false q = q
 
 -- octets are never bad
-pub never_bad : (s : List ℕ) (at w : ℕ) → ((i : ℕ) → get_or s i 0 < 256) → count_at s at w ≡ Bad → ⊥
+pub never_bad : (s : List ℕ) (at w : ℕ) → ((i : ℕ) → get_or s i 0 < 256) → count_at s at w ≡ Err Field → ⊥
 never_bad s at w h e =
-    never_both (all_good_lem octet_good (drop at s) w (λ i l. rw get_or-drop (lt-ltb (get_or s (at + i) 0) 256 (h (at + i))))) (told 256 _ octet_good 8 s at w Bad e).1
+    never_both (all_good_lem octet_good (drop at s) w (λ i l. rw get_or-drop (lt-ltb (get_or s (at + i) 0) 256 (h (at + i))))) (told 256 _ octet_good 8 s at w (Err Field) e).1
+
+-- and so octets that are there are never refused
+pub never_refused : (s : List ℕ) (at w : ℕ) → w ≤ 8 → at + w ≤ length s → ((i : ℕ) → get_or s i 0 < 256) → (why : Refusal) → count_at s at w ≡ Err why → ⊥
+never_refused s at w h k b why e =
+    never_both (all_good_lem octet_good (drop at s) w (λ i l. rw get_or-drop (lt-ltb (get_or s (at + i) 0) 256 (b (at + i))))) (told_err 256 _ octet_good 8 s at w why h k e)
 
 -- reading what was written gives the number
-pub read_back : {b : ℕ} {v p : ℕ → ℕ} {ok : ℕ → Bool} → Rule b v p ok → (widest : ℕ) (s t : List ℕ) (at w n : ℕ) → w ≤ widest → n < b ^ w → at ≤ length s → drop at s ≡ places b p w n ++ t → Done n ≡ count_of b v ok widest s at w
+pub read_back : {b : ℕ} {v p : ℕ → ℕ} {ok : ℕ → Bool} → Rule b v p ok → (widest : ℕ) (s t : List ℕ) (at w n : ℕ) → w ≤ widest → n < b ^ w → at ≤ length s → drop at s ≡ places b p w n ++ t → Ok n ≡ count_of b v ok widest s at w
 read_back {b} {v} {p} {ok} rule widest s t at w n h k a e =
     let x = places b p w n in
     let l = length_places b p w n in
-    gives_done (record {
+    gives_ok (record {
       narrow = h;
       within = omega (arith, length-drop at s, ap length e, length-append x t);
       part = le_refl w;

@@ -6,7 +6,8 @@ use Rattle.octets.specs.Places.{be, octets, bcd_of, bcd, decimal_of, digits}
 use Rattle.octets.specs.Counts.{count_of, count_at, bcd_at, decimal_at}
 use Rattle.octets.specs.Stores.{pasted}
 use Rattle.octets.specs.Powers.{power_in}
-use Rattle.octets.specs.declared.Counted.TheVariants.{Done, Bad, Out}
+use Rattle.std.specs.Prelude.{Ok, Err}
+use Rattle.base.specs.declared.Refusal.TheVariants.{Short, Field}
 
 -- 6E FA A5 24, a second of CUC
 abbrev second : List ℕ
@@ -30,17 +31,17 @@ fraction_count : (decimal_of fraction 6 ≡ 121093) × (digits 6 121093 ≡ frac
 fraction_count = (refl, refl)
 
 -- a part from a place on; the bytes run out; too wide
-count_ends : (count_at second 1 3 ≡ Done 16426276) × (count_at second 2 3 ≡ Out) × (count_at second 5 0 ≡ Out) × (count_at [] 0 9 ≡ Out)
+count_ends : (count_at second 1 3 ≡ Ok 16426276) × (count_at second 2 3 ≡ Err Short) × (count_at second 5 0 ≡ Err Short) × (count_at [] 0 9 ≡ Err Short)
 unfolding count_of
 count_ends = (refl, refl, refl, refl)
 
 -- a nibble of 10; both rules broken, and the bytes first
-bcd_ends : (bcd_at (153 ∷ []) 0 1 ≡ Done 99) × (bcd_at (160 ∷ []) 0 1 ≡ Bad) × (bcd_at (10 ∷ []) 0 1 ≡ Bad) × (bcd_at (10 ∷ []) 0 2 ≡ Out)
+bcd_ends : (bcd_at (153 ∷ []) 0 1 ≡ Ok 99) × (bcd_at (160 ∷ []) 0 1 ≡ Err Field) × (bcd_at (10 ∷ []) 0 1 ≡ Err Field) × (bcd_at (10 ∷ []) 0 2 ≡ Err Short)
 unfolding count_of
 bcd_ends = (refl, refl, refl, refl)
 
 -- the characters next to the digits
-decimal_ends : (decimal_at fraction 2 4 ≡ Done 1093) × (decimal_at (47 ∷ []) 0 1 ≡ Bad) × (decimal_at (58 ∷ []) 0 1 ≡ Bad) × (decimal_at fraction 0 7 ≡ Out)
+decimal_ends : (decimal_at fraction 2 4 ≡ Ok 1093) × (decimal_at (47 ∷ []) 0 1 ≡ Err Field) × (decimal_at (58 ∷ []) 0 1 ≡ Err Field) × (decimal_at fraction 0 7 ≡ Err Short)
 unfolding count_of
 decimal_ends = (refl, refl, refl, refl)
 

@@ -3,7 +3,6 @@ pub mod Pastes
 pub mod Turns
 pub mod Counts
 pub mod Moved
-pub mod Tables
 pub mod Writes
 pub mod Once
 pub mod Known

@@ -6,6 +6,7 @@ use Prim.Native.Nat.{ℕ, suc, ◌+◌, ◌<◌, ◌≤◌}
 use native.Mathlib.Nat.{zero-add}
 use native.Mathlib.Omega.{arith}
 use borrow.Author.Tests.{le-leb, lt-leb}
+use borrow.Rule.Slice.PartMut.{put_mid}
 use lib.ListN.{length, take, drop, set, take-append-drop, length-append, length-drop}
 use lib.Seq.{drop-set-lt, take_at, drop_at, length-take-le, drop-drop, take-suc-set}
 use Rattle.base.proofs.Bools.{cond_yes, cond_no}
@@ -52,6 +53,11 @@ paste_cons d at c b h =
 
 pub paste_one : (d : List ℕ) (at c : ℕ) → at < length d → set d at c ≡ pasted d at (c ∷ [])
 paste_one d at c h = paste_none (set d at c) (at + 1) ∙ paste_cons d at c [] h
+
+-- after `out[at..at + n].copy_from_slice(text)`
+pub copied : (out text new : List ℕ) (at k : ℕ) → new ≡ text → k ≡ length text → put_mid at k out new ≡ pasted out at text
+unfolding pasted
+copied out text new at k e f = rw (e, f, drop-drop (length text) at out) (simp append_assoc)
 
 -- ---- what a call stored, with room and without
 module _ {text old new : List ℕ} {at : ℕ} where

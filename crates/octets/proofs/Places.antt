@@ -5,13 +5,14 @@ use mathlib.Core.List.{List, [], ◌∷◌, ◌++◌, append_assoc, append-nil}
 use Prim.Native.Nat.{ℕ, zero, suc, ◌+◌, ◌*◌, ◌/◌, ◌%◌, ◌^◌, ◌<◌, ◌≤◌}
 use native.Mathlib.Nat.{not-suc-le-zero, add-zero, add-suc, mul-one, mul_assoc, add-mul, add_assoc, pow-zero, pow-suc, one-le-pow, mod-lt, mod-one, mod-eq_of_lt, div-add-mod', div-lt_iff_lt-mul}
 use native.Mathlib.Omega.{arith}
-use borrow.Author.Tests.{ltb-true, ltb-false, leb-true, lt-ltb, le-leb}
+use borrow.Author.Tests.{ltb-true, ltb-false}
 use lib.Arith.{digits_lt, digits_div, digits_mod, mod-mul}
-use lib.Dec.{ltb, leb, lit<}
+use lib.Dec.{ltb, lit<}
 use lib.ListN.{length, get_or, take, drop, length-append, take-append-drop, get_or-append}
 use lib.Seq.{take-suc, get_or_at, get_or-drop, length-take-le}
 use Rattle.base.proofs.Bools.{and_true, and_yes, and_one, and_assoc, never_both}
-use Rattle.octets.specs.Places.{number, places, all_good, octet_value, octet_of, octet_good, bcd_value, bcd_element, bcd_good, digit_value, digit_of, digit_good}
+use Rattle.octets.specs.Places.{number, places, all_good}
+pub use Rattle.octets.specs.Rules.{Rule, octet_rule, bcd_rule, digit_rule}
 
 -- ---- any elements
 module _ (b : ℕ) (v : ℕ → ℕ) where
@@ -84,14 +85,6 @@ module _ (ok : ℕ → Bool) where
       go false g = g
 
 -- ---- elements that keep a rule
--- good elements and the values below the base are in step
-pub record Rule (b : ℕ) (v p : ℕ → ℕ) (ok : ℕ → Bool) : Type 0 where
-  pub some : 0 < b
-  pub below : (x : ℕ) → ok x ≡ true → v x < b
-  pub again : (x : ℕ) → ok x ≡ true → p (v x) ≡ x
-  pub value : (d : ℕ) → d < b → v (p d) ≡ d
-  pub good : (d : ℕ) → d < b → ok (p d) ≡ true
-
 module _ {b : ℕ} {v p : ℕ → ℕ} {ok : ℕ → Bool} (rule : Rule b v p ok) where
   pub number_lt : (s : List ℕ) (w : ℕ) → all_good ok s w ≡ true → number b v s w < b ^ w
   number_lt s zero g = rw pow-zero (lit< tt)
@@ -128,37 +121,3 @@ module _ {b : ℕ} {v p : ℕ → ℕ} {ok : ℕ → Bool} (rule : Rule b v p ok
       let q = places b p w (n / b) in
       rw (good_append ok q (p (n % b) ∷ []) w (omega (arith, length_places b p w (n / b))), places_good w (n / b), get_or_at q (p (n % b)) [] 0 w (length_places b p w (n / b)))
       (rule.good (n % b) (mod-lt n rule.some))
-
--- ---- the three kinds
-pub octet_rule : Rule 256 octet_value octet_of octet_good
-octet_rule = record {
-  some = lit< tt;
-  below = λ x g. ltb-true x 256 g;
-  again = λ x g. refl;
-  value = λ d h. refl;
-  good = λ d h. lt-ltb d 256 h;
-}
-
-pub bcd_rule : Rule 100 bcd_value bcd_element bcd_good
-bcd_rule = record {
-  some = lit< tt;
-  below = λ x g. let n = nibbles x g in omega arith;
-  again = λ x g. let n = nibbles x g in omega arith;
-  value = λ d h. omega arith;
-  good = λ d h. and_yes _ (le-leb (bcd_element d / 16) 9 (omega arith)) ∙ le-leb (bcd_element d % 16) 9 (omega arith);
-}
-  where
-    nibbles : (x : ℕ) → bcd_good x ≡ true → (x / 16 ≤ 9) × (x % 16 ≤ 9)
-    nibbles x g = let e = and_true (leb (x / 16) 9) (leb (x % 16) 9) g in (leb-true _ _ e.0, leb-true _ _ e.1)
-
-pub digit_rule : Rule 10 digit_value digit_of digit_good
-digit_rule = record {
-  some = lit< tt;
-  below = λ x g. let n = ends x g in omega arith;
-  again = λ x g. let n = ends x g in omega arith;
-  value = λ d h. omega arith;
-  good = λ d h. and_yes _ (le-leb 48 (digit_of d) (omega arith)) ∙ le-leb (digit_of d) 57 (omega arith);
-}
-  where
-    ends : (x : ℕ) → digit_good x ≡ true → (48 ≤ x) × (x ≤ 57)
-    ends x g = let e = and_true (leb 48 x) (leb x 57) g in (leb-true _ _ e.0, leb-true _ _ e.1)

@@ -1,16 +1,19 @@
 -- The turns of the loops that read and store, over any base and kind of element.
 use mathlib.Core.Path.{◌≡◌, refl, ◌∙◌}
-use mathlib.Core.Bool.{Bool, true, false, ◌&&◌}
+use mathlib.Core.Bool.{Bool, true, false, cond}
 use mathlib.Core.List.{List, append_assoc}
 use Prim.Native.Nat.{ℕ, zero, suc, ◌+◌, ◌*◌, ◌-◌, ◌/◌, ◌%◌, ◌^◌, ◌<◌, ◌≤◌}
-use native.Mathlib.Nat.{pow-suc, pow-le-pow_right, mul-le-mul_right, le_trans}
+use native.Mathlib.Nat.{add-mul, pow-suc, pow-le-pow_right, mul-le-mul_right, le_trans}
 use native.Mathlib.Numerals.{add-one}
 use native.Mathlib.Omega.{arith}
-use borrow.Author.Tests.{leb-true, leb-false}
+use borrow.Author.Tests.{leb-false}
 use lib.Dec.{leb}
 use lib.ListN.{length, get_or, set, length-set}
 use lib.Seq.{get_or-drop, take-set-le, drop-cons, drop-set-lt, get_or-set_same}
-use Rattle.base.proofs.Bools.{and_true, and_yes}
+use Rattle.std.specs.Prelude.{Result, Ok, Err}
+use Rattle.base.specs.declared.Refusal.{Refusal}
+use Rattle.base.specs.declared.Refusal.TheVariants.{Field}
+use Rattle.base.proofs.Bools.{and_yes}
 use Rattle.octets.specs.Places.{places}
 use Rattle.octets.specs.Stores.{pasted, Stored}
 use Rattle.octets.proofs.Places.{Rule, length_places}
@@ -19,11 +22,6 @@ use Rattle.octets.proofs.Pastes.{paste_none, stores, stays}
 
 -- ---- reading, from the front
 module _ {b : ℕ} {v : ℕ → ℕ} {ok : ℕ → Bool} {widest : ℕ} {s : List ℕ} {at w : ℕ} where
-  pub start : leb w widest && leb (at + w) (length s) ≡ true → Read b v ok widest s at w 0 0
-  start e =
-      let t = and_true (leb w widest) (leb (at + w) (length s)) e in
-      record { narrow = leb-true _ _ t.0; within = leb-true _ _ t.1; part = omega arith; is = refl; good = refl }
-
   pub turn : {n i : ℕ} → Read b v ok widest s at w n i → i < w → ok (get_or s (at + i) 0) ≡ true → Read b v ok widest s at w (n * b + v (get_or s (at + i) 0)) (i + 1)
   turn r h g = record {
     narrow = r.narrow;
@@ -39,6 +37,19 @@ module _ {b : ℕ} {v : ℕ → ℕ} {ok : ℕ → Bool} {widest : ℕ} {s : Lis
       let k : n + 1 ≤ b ^ i = omega (arith, read_lt r rule) in
       let l : suc i ≤ widest = omega arith in
       le_trans (mul-le-mul_right b k) (rw pow-suc at (pow-le-pow_right rule.some l))
+
+  -- and where the widest number is below a bound, each number on the way is
+  pub below : {p : ℕ → ℕ} {n i x m : ℕ} → Rule b v p ok → b ^ widest ≤ m → Read b v ok widest s at w n i → i < w → ok x ≡ true → n * b + v x < m
+  below {n = n} {x = x} rule f r h g = omega (arith, more rule r h, rule.below x g, add-mul n 1 b)
+
+-- what an element's answer tells
+pub good_told : (g : Bool) (y d : ℕ) (r : Result ℕ Refusal) → r ≡ cond g (Ok y) (Err Field) → r ≡ Ok d → (g ≡ true) × (d ≡ y)
+good_told true y d r e f = (refl, cc)
+good_told false y d r e f = absurd (cc)
+
+pub bad_told : (g : Bool) (y : ℕ) (why : Refusal) (r : Result ℕ Refusal) → r ≡ cond g (Ok y) (Err Field) → r ≡ Err why → (g ≡ false) × (why ≡ Field)
+bad_told true y why r e f = absurd (cc)
+bad_told false y why r e f = (refl, cc)
 
 -- ---- storing, from the back
 -- to put in the k elements of m is what is left to do
@@ -68,17 +79,18 @@ module _ (b : ℕ) (p : ℕ → ℕ) (at : ℕ) where
       rw (e, j, length_places b p k (m / b), take-set-le at d (at + k) x (omega arith), drop-cons (set d (at + k) x) (at + k) 0 q', get_or-set_same d (at + k) x 0 q, drop-set-lt (suc (at + k)) d (at + k) x (omega arith)) (simp append_assoc)
 
 module _ {b : ℕ} {p : ℕ → ℕ} {old : List ℕ} {at w n : ℕ} where
-  pub begin : leb (at + w) (length old) ≡ true → Write b p old at w n old n w
-  begin e = record { part = omega arith; within = leb-true (at + w) (length old) e; size = refl; left = refl }
-
-  pub step : {new : List ℕ} {m k : ℕ} → Write b p old at w n new m k → 0 < k → Write b p old at w n (set new (at + (k - 1)) (p (m % b))) (m / b) (k - 1)
-  step {new} {m} {k} r h =
-      let z = length-set new (at + (k - 1)) (p (m % b)) in
+  -- the place i - 1 is stored next
+  pub step : {new : List ℕ} {m i : ℕ} → Write b p old at w n new m (i - at) → at < i → Write b p old at w n (set new (i - 1) (p (m % b))) (m / b) (i - 1 - at)
+  step {new} {m} {i} r h =
+      let z = length-set new (i - 1) (p (m % b)) in
+      let e : at + (i - at - 1) ≡ i - 1 = omega arith in
+      let f : i - at - 1 ≡ i - 1 - at = omega arith in
+      let l = put_last b p at new m (i - at) (omega arith) (omega arith) in
       record {
         part = omega arith;
         within = omega arith;
         size = z ∙ r.size;
-        left = put_last b p at new m k h (omega arith) ∙ r.left;
+        left = rw (e, f) at l ∙ r.left;
       }
 
   pub finish : {new : List ℕ} {m k : ℕ} → Write b p old at w n new m k → k ≤ 0 → Stored (places b p w n) at old new true

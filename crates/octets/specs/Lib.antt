@@ -1,4 +1,5 @@
 pub mod Places
+pub mod Rules
 pub mod Counts
 pub mod Stores
 pub mod Powers

@@ -15,7 +15,8 @@ use Rattle.pfield.specs.declared.Preamble.{Preamble}
 use Rattle.pfield.specs.declared.Preamble.TheVariants.{Front, Given}
 use Rattle.pfield.specs.declared.Codes.{Codes}
 use Rattle.pfield.specs.declared.Layout.{Layout}
-use Rattle.pfield.specs.PField.{laid, Headed, headed, octet, headed_of}
+use Rattle.pfield.specs.PField.{laid, headed, octet, headed_of}
+use Rattle.pfield.specs.declared.Head.{Head}
 
 -- ---- a head, by where it stands
 module _ (c : Codes) (e : ℤ) where
@@ -28,25 +29,25 @@ module _ (c : Codes) (e : ℤ) where
   head_octet o s l h = need_yes 1 _ (le-leb 1 (length (o ∷ s)) (omega arith)) ∙ ap (given (headed 1)) h
 
   -- and what an answered one was made of
-  pub given_head : (s : List ℕ) (p : PField) (h : Headed) → headed_of c s (Given p) e ≡ done h → (laid c p e ≡ done h.layout) × (h.start ≡ 0)
+  pub given_head : (s : List ℕ) (p : PField) (h : Head) → headed_of c s (Given p) e ≡ done h → (laid c p e ≡ done h.layout) × (h.start ≡ 0)
   unfolding headed_of
   given_head s p h q =
       let (l, (a, b)) = given_done (headed 0) (laid c p e) h q in
-      (a ∙ ap (λ (x : Headed). done x.layout) b, sym (ap (λ (x : Headed). x.start) b))
+      (a ∙ ap (λ (x : Head). done x.layout) b, sym (ap (λ (x : Head). x.start) b))
 
-  pub octet_head : (s : List ℕ) (h : Headed) → headed_of c s Front e ≡ done h → (1 ≤ length s) × (laid c (octet (get_or s 0 0)) e ≡ done h.layout) × (h.start ≡ 1)
+  pub octet_head : (s : List ℕ) (h : Head) → headed_of c s Front e ≡ done h → (1 ≤ length s) × (laid c (octet (get_or s 0 0)) e ≡ done h.layout) × (h.start ≡ 1)
   unfolding headed_of
   octet_head s h q =
       let (n, r) = need_done (leb 1 (length s)) 1 _ h q in
       let (l, (a, b)) = given_done (headed 1) (laid c (octet (get_or s 0 0)) e) h r in
-      (leb-true 1 (length s) n, a ∙ ap (λ (x : Headed). done x.layout) b, sym (ap (λ (x : Headed). x.start) b))
+      (leb-true 1 (length s) n, a ∙ ap (λ (x : Head). done x.layout) b, sym (ap (λ (x : Head). x.start) b))
 
-  pub start_low : (s : List ℕ) (p : Preamble) (h : Headed) → headed_of c s p e ≡ done h → h.start ≤ 1
+  pub start_low : (s : List ℕ) (p : Preamble) (h : Head) → headed_of c s p e ≡ done h → h.start ≤ 1
   start_low s (Given p) h q = omega (arith, (given_head s p h q).1)
   start_low s Front h q = let (_, _, n) = octet_head s h q in omega (arith, n)
 
 -- ---- what goes on behind one
-module _ {A : Type 0} (k : Headed → Outcome A) where
+module _ {A : Type 0} (k : Head → Outcome A) where
   then_given : (n : ℕ) (x : Outcome Layout) → and_then (given (headed n) x) k ≡ and_then x (λ l. k (headed n l))
   then_given n (done l) = refl
   then_given n (refused m) = refl

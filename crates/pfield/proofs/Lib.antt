@@ -1,3 +1,3 @@
 pub mod Layouts
 pub mod Heads
-pub mod Once
+pub mod Names

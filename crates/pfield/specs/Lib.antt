@@ -1,2 +1,2 @@
 pub mod PField
-pub mod Answers
+pub mod Inner

@@ -10,6 +10,7 @@ use Rattle.pfield.specs.declared.Codes.{Codes}
 use Rattle.pfield.specs.declared.Codes.TheVariants.{All, Cuc}
 use Rattle.pfield.specs.declared.Layout.{Layout}
 use Rattle.pfield.specs.declared.Layout.TheVariants as L
+use Rattle.pfield.specs.declared.Head.{Head}
 
 abbrev pub ident : ℕ → ℕ
 ident o = o / 16 % 8
@@ -49,18 +50,13 @@ unfoldable pub laid : Codes → PField → ℤ → Outcome Layout
 laid c p e = need (allows c (ident p.octet)) 2 (need (ltb p.octet 128) 3 (laid_as p.octet e))
 
 -- ---- where it stands
--- a layout, and where the T-field starts
-pub record Headed : Type 0 where
-  pub layout : Layout
-  pub start : ℕ
-
-abbrev pub headed : ℕ → Layout → Headed
+abbrev pub headed : ℕ → Layout → Head
 headed n l = record { layout = l; start = n }
 
 abbrev pub octet : ℕ → PField
 octet o = record { octet = o }
 
 -- "A P octet is read from the front or supplied by the caller apart": one that is missing is 1
-unfoldable pub headed_of : Codes → List ℕ → Preamble → ℤ → Outcome Headed
+unfoldable pub headed_of : Codes → List ℕ → Preamble → ℤ → Outcome Head
 headed_of c s (Given p) e = given (headed 0) (laid c p e)
 headed_of c s Front e = need (leb 1 (length s)) 1 (given (headed 1) (laid c (octet (get_or s 0 0)) e))

@@ -1,28 +1,28 @@
 // The P-field: where it stands, which codes it may name, and the layout that it gives. Nothing else looks at its bits.
 #![tactic(auto)]
 
-ghost use Rattle.std.specs.Prelude.{◌≡◌};
-ghost use Rattle.base.specs.Outcome.{given};
-ghost use Rattle.pfield.specs.PField.{ident, allows, laid, laid_as, cuc_laid, cds_laid, ccs_laid, headed, headed_of};
-ghost use Rattle.pfield.specs.Answers.{says_layout, says_head};
+ghost use Rattle.std.specs.Prelude.{◌≡◌, eqb};
+ghost use Rattle.base.specs.Said.{said};
+ghost use Rattle.pfield.specs.PField.{allows, bit4, laid, cds_laid, ccs_laid, headed_of};
+ghost use Rattle.pfield.specs.Inner.{Identifies, number_of, cuc_from};
 
 use base::Refusal;
 
 // A P-field as it is written: its one octet.
-#[derive(Clone, Copy)]
+#[derive(Clone, Copy, Debug, PartialEq, Eq)]
 pub struct PField {
     pub octet: u8,
 }
 
-// Where the P-field is: in front of the bytes, or supplied apart.
-#[derive(Clone, Copy)]
+// Where the P-field is: in front of the bytes, or supplied apart. Not an Option, whose None would not say where.
+#[derive(Clone, Copy, Debug, PartialEq, Eq)]
 pub enum Preamble {
     Front,
     Given(PField),
 }
 
 // The identifications that are allowed: those of all codes, or CUC's alone, as in a listing.
-#[derive(Clone, Copy)]
+#[derive(Clone, Copy, Debug, PartialEq, Eq)]
 pub enum Codes {
     All,
     Cuc,
@@ -36,140 +36,146 @@ pub enum Layout {
     Ccs(ccs::Layout),
 }
 
-#[derive(Clone, Copy)]
-pub enum LayoutAnswer {
-    Done(Layout),
-    Refused(Refusal),
-}
-
 // A layout, and where the T-field starts.
 #[derive(Clone, Copy)]
-pub enum Head {
-    Done(Layout, usize),
-    Refused(Refusal),
+pub struct Head {
+    pub layout: Layout,
+    pub start: usize,
 }
 
 // Reads the P-field of some bytes, from their front or supplied apart.
-pub fn read(s: &[u8], p: Preamble, codes: Codes, epoch: i64) -> Head
-    ensures { says_head result ≡ headed_of codes s.now p epoch }
+#[tactic(auto, unfolding(crate::specs::PField::headed_of))]
+pub fn read(s: &[u8], p: Preamble, codes: Codes, epoch: i64) -> Result<Head, Refusal>
+    ensures { said result ≡ headed_of codes s.now p epoch }
 {
-    match p {
-        Preamble::Given(field) => headed(lay(field, codes, epoch), 0),
+    let (field, start) = match p {
+        Preamble::Given(field) => (field, 0),
         Preamble::Front => {
-            if s.len() < 1 {
-                return Head::Refused(Refusal::Short);
-            }
-            let octet = s[0];
-            let field = PField { octet };
-            headed(lay(field, codes, epoch), 1)
+            let octet = *s.first().ok_or(Refusal::Short)?;
+            (PField { octet }, 1)
+        }
+    };
+    Ok(Head {
+        layout: lay(field, codes, epoch)?,
+        start,
+    })
+}
+
+// The layout that a P-field gives.
+#[tactic(auto, using(crate::proofs::Names::none_allowed), unfolding(crate::specs::PField::laid, crate::specs::PField::laid_as, crate::specs::PField::cuc_laid, base::specs::Parts::within))]
+pub fn lay(p: PField, codes: Codes, epoch: i64) -> Result<Layout, Refusal>
+    ensures { said result ≡ laid codes p epoch }
+{
+    let id = Identification::try_from(p)?;
+    if !codes.allow(id) {
+        return Err(Refusal::Identification);
+    }
+    // bit 0, the extension
+    if 128 <= p.octet {
+        return Err(Refusal::Unsupported);
+    }
+    match id {
+        Identification::CucFrom1958 => p.cuc(0),
+        Identification::CucFromEpoch => p.cuc(epoch),
+        Identification::Cds => p.cds(epoch),
+        Identification::Ccs => p.ccs(),
+    }
+}
+
+// What bits 1 to 3 name: a code, and with CUC where its epoch is.
+#[derive(Clone, Copy)]
+enum Identification {
+    CucFrom1958,
+    CucFromEpoch,
+    Cds,
+    Ccs,
+}
+
+impl TryFrom<PField> for Identification {
+    type Error = Refusal;
+
+    ghost try_from_gives = { λ p r. Identifies p.octet r };
+
+    #[tactic(auto, unfolding(crate::specs::PField::allows))]
+    fn try_from(p: PField) -> Result<Identification, Refusal> {
+        match p.octet / 16 % 8 {
+            1 => Ok(Identification::CucFrom1958),
+            2 => Ok(Identification::CucFromEpoch),
+            4 => Ok(Identification::Cds),
+            5 => Ok(Identification::Ccs),
+            _ => Err(Refusal::Identification),
         }
     }
 }
 
-// The layout that a P-field gives.
-pub fn lay(p: PField, codes: Codes, epoch: i64) -> LayoutAnswer
-    ensures { says_layout result ≡ laid codes p epoch }
-{
-    let o = p.octet;
-    if !allowed(codes, o) {
-        return LayoutAnswer::Refused(Refusal::Identification);
-    }
-    if 128 <= o {
-        return LayoutAnswer::Refused(Refusal::Unsupported);
-    }
-    lay_as(o, epoch)
-}
-
-fn headed(a: LayoutAnswer, start: usize) -> Head
-    ensures { says_head result ≡ given (headed start) (says_layout a) }
-{
-    match a {
-        LayoutAnswer::Refused(why) => Head::Refused(why),
-        LayoutAnswer::Done(l) => Head::Done(l, start),
+impl Codes {
+    #[tactic(auto, unfolding(crate::specs::PField::allows))]
+    fn allow(self, id: Identification) -> bool
+        ensures { result ≡ allows self (number_of id) }
+    {
+        match self {
+            Codes::All => true,
+            Codes::Cuc => matches!(
+                id,
+                Identification::CucFrom1958 | Identification::CucFromEpoch
+            ),
+        }
     }
 }
 
-// Whether an octet's identification is allowed.
-fn allowed(codes: Codes, o: u8) -> bool
-    ensures { result ≡ allows codes (ident o) }
-{
-    let id = o / 16 % 8;
-    match codes {
-        Codes::All => (id == 1) | (id == 2) | (id == 4) | (id == 5),
-        Codes::Cuc => (id == 1) | (id == 2),
+// The layouts of each code, by bits 4 to 7.
+impl PField {
+    fn cuc(self, epoch: i64) -> Result<Layout, Refusal>
+        ensures { said result ≡ cuc_from self.octet epoch }
+    {
+        if !cuc::is_epoch(epoch) {
+            return Err(Refusal::Range);
+        }
+        Ok(Layout::Cuc(cuc::Layout {
+            epoch,
+            coarse: usize::from(self.octet / 4 % 4) + 1,
+            fine: usize::from(self.octet % 4),
+        }))
     }
-}
 
-fn lay_as(o: u8, epoch: i64) -> LayoutAnswer
-    ensures { says_layout result ≡ laid_as o epoch }
-{
-    let id = o / 16 % 8;
-    if id == 5 {
-        return lay_ccs(o);
+    #[tactic(auto, unfolding(crate::specs::PField::cds_laid, base::specs::Parts::within))]
+    fn cds(self, epoch: i64) -> Result<Layout, Refusal>
+        ensures { said result ≡ cds_laid self.octet epoch }
+    {
+        let part = match self.octet % 4 {
+            0 => 0,
+            1 => 2,
+            2 => 4,
+            _ => return Err(Refusal::Unsupported),
+        };
+        let epoch = if self.bit4() { epoch } else { 0 };
+        if !cds::is_epoch(epoch) {
+            return Err(Refusal::Range);
+        }
+        Ok(Layout::Cds(cds::Layout {
+            epoch,
+            day: usize::from(self.octet / 4 % 2) + 2,
+            part,
+        }))
     }
-    if id == 4 {
-        return lay_cds(o, epoch);
-    }
-    lay_cuc(o, epoch)
-}
 
-fn lay_cuc(o: u8, epoch: i64) -> LayoutAnswer
-    ensures { says_layout result ≡ cuc_laid o epoch }
-{
-    let coarse = (o / 4 % 4) as usize + 1;
-    let fine = (o % 4) as usize;
-    if o / 16 % 8 == 1 {
-        return LayoutAnswer::Done(Layout::Cuc(cuc::Layout {
-            epoch: 0,
-            coarse: coarse,
-            fine: fine,
-        }));
+    #[tactic(auto, unfolding(crate::specs::PField::ccs_laid))]
+    fn ccs(self) -> Result<Layout, Refusal>
+        ensures { said result ≡ ccs_laid self.octet }
+    {
+        let segments = usize::from(self.octet % 8);
+        if segments == 7 {
+            return Err(Refusal::Unsupported);
+        }
+        Ok(Layout::Ccs(ccs::Layout {
+            ordinal: self.bit4(),
+            segments,
+        }))
     }
-    if cuc::is_epoch(epoch) {
-        return LayoutAnswer::Done(Layout::Cuc(cuc::Layout {
-            epoch: epoch,
-            coarse: coarse,
-            fine: fine,
-        }));
-    }
-    LayoutAnswer::Refused(Refusal::Range)
-}
 
-fn lay_cds(o: u8, epoch: i64) -> LayoutAnswer
-    ensures { says_layout result ≡ cds_laid o epoch }
-{
-    let day = (o / 4 % 2) as usize + 2;
-    let part = (o % 4) as usize * 2;
-    if 3 <= o % 4 {
-        return LayoutAnswer::Refused(Refusal::Unsupported);
+    fn bit4(self) -> bool
+        ensures { result ≡ eqb (bit4 self.octet) 1 }
+    {
+        self.octet / 8 % 2 == 1
     }
-    if o / 8 % 2 == 0 {
-        return LayoutAnswer::Done(Layout::Cds(cds::Layout {
-            epoch: 0,
-            day: day,
-            part: part,
-        }));
-    }
-    if cds::is_epoch(epoch) {
-        return LayoutAnswer::Done(Layout::Cds(cds::Layout {
-            epoch: epoch,
-            day: day,
-            part: part,
-        }));
-    }
-    LayoutAnswer::Refused(Refusal::Range)
-}
-
-fn lay_ccs(o: u8) -> LayoutAnswer
-    ensures { says_layout result ≡ ccs_laid o }
-{
-    let ordinal = o / 8 % 2 == 1;
-    let segments = (o % 8) as usize;
-    if 7 <= o % 8 {
-        return LayoutAnswer::Refused(Refusal::Unsupported);
-    }
-    LayoutAnswer::Done(Layout::Ccs(ccs::Layout {
-        ordinal: ordinal,
-        segments: segments,
-    }))
 }

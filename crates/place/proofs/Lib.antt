@@ -6,3 +6,4 @@ pub mod Texts
 pub mod Codes
 pub mod Moved
 pub mod Known
+pub mod Heads

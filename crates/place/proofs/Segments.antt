@@ -1,48 +1,44 @@
--- The segments of a fraction, one after another.
+-- The segments of a fraction: a pair of digits that can be read is below 100, so that the first bad segment is the first that cannot.
 use mathlib.Core.Path.{◌≡◌, refl, sym, ap, ◌∙◌}
-use mathlib.Core.Bool.{Bool}
-use mathlib.Core.List.{List, ◌∷◌}
-use Prim.Native.Nat.{ℕ, suc, ◌+◌, ◌-◌, ◌<◌, ◌≤◌}
+use mathlib.Core.Bool.{Bool, true, false, not}
+use mathlib.Core.List.{List}
+use Prim.Native.Nat.{ℕ, zero, suc, ◌+◌, ◌<◌, ◌≤◌}
 use native.Mathlib.Omega.{arith}
-use borrow.Author.Tests.{lt-ltb, le-ltb}
-use lib.Dec.{ltb}
-use lib.ListN.{length}
+use borrow.Author.Tests.{leb-true, leb-false, lt-ltb}
+use lib.Dec.{leb, ltb}
+use Rattle.std.specs.Prelude.{Result, Option, Ok, Err, Some, None, MatchOption, is_err}
+use Rattle.base.specs.declared.Refusal.{Refusal}
+use Rattle.octets.specs.Places.{bcd_value, bcd_good}
 use Rattle.octets.specs.Counts.{bcd_at}
-use Rattle.field.specs.Fields.{field, first_bad}
-use Rattle.field.specs.declared.Place.TheVariants.{At, Nowhere}
+use Rattle.octets.proofs.Counts.{told, read_lt}
+use Rattle.octets.proofs.Places.{bcd_rule}
+use Rattle.field.specs.Fields.{first_bad}
 use Rattle.place.specs.Binary.{kept, segments_in}
-use Rattle.place.specs.Inner.{number_of}
-use Rattle.place.proofs.Numbers.{kept_as}
 
--- the first i of n are good
-pub record Passed (s : List ℕ) (at n i : ℕ) : Type 0 where
-  pub few : n ≤ 6
-  pub within : at + (7 + n) ≤ length s
-  pub part : i ≤ n
-  pub same : first_bad (segments_in s at (7 + i) (n - i)) ≡ first_bad (segments_in s at 7 n)
+module _ (s : List ℕ) (at : ℕ) where
+  abbrev pub bad : ℕ → Bool
+  bad i = is_err (bcd_at s (at + i) 1)
 
-pub begins : (s : List ℕ) (at n : ℕ) → n ≤ 6 → at + (7 + n) ≤ length s → Passed s at n 0
-begins s at n h l = let e : n - 0 ≡ n = omega arith in record { few = h; within = l; part = omega arith; same = rw e }
+  pair : (i : ℕ) → kept (bcd_at s (at + i) 1) (λ d. ltb d 100) ≡ not (bad i)
+  pair i = go (bcd_at s (at + i) 1) refl
+    where
+      go : (r : Result ℕ Refusal) → bcd_at s (at + i) 1 ≡ r → kept r (λ d. ltb d 100) ≡ not (is_err r)
+      go (Ok n) e = lt-ltb n 100 (read_lt (told 100 bcd_value bcd_good 9 s (at + i) 1 (Ok n) e) bcd_rule)
+      go (Err why) e = refl
 
-turn : (s : List ℕ) (at i n k : ℕ) → n ≡ suc k → segments_in s at i n ≡ field i (kept (bcd_at s (at + i) 1) (λ d. ltb d 100)) ∷ segments_in s at (suc i) k
-turn s at i n k e = rw e
+  -- what `find` tells
+  abbrev pub First : ℕ → ℕ → Option ℕ → Type 0
+  First i n r = MatchOption r ((k : ℕ) → i ≤ k → k < i + n → bad k ≡ false) (λ j. (i ≤ j) × (j < i + n) × (bad j ≡ true) × ((k : ℕ) → i ≤ k → k < j → bad k ≡ false))
 
-module _ {s : List ℕ} {at n i : ℕ} (p : Passed s at n i) (h : i < n) (pair : ℕ) (e : pair ≡ number_of (bcd_at s (at + (7 + i)) 1)) where
-  judged : kept (bcd_at s (at + (7 + i)) 1) (λ d. ltb d 100) ≡ ltb pair 100
-  judged = kept_as (bcd_at s (at + (7 + i)) 1) (λ d. ltb d 100) refl ∙ ap (λ (k : ℕ). ltb k 100) (sym e)
+  skips : (i n : ℕ) → bad i ≡ false → first_bad (segments_in s at (suc i) n) ≡ first_bad (segments_in s at i (suc n))
+  skips i n e = rw (pair i, e)
 
-  next : first_bad (segments_in s at (7 + i) (n - i)) ≡ first_bad (field (7 + i) (ltb pair 100) ∷ segments_in s at (suc (7 + i)) (n - (i + 1)))
-  next =
-      ap first_bad (turn s at (7 + i) (n - i) (n - (i + 1)) (omega arith))
-      ∙ ap (λ (b : Bool). first_bad (field (7 + i) b ∷ segments_in s at (suc (7 + i)) (n - (i + 1)))) judged
-
-  pub stops : 99 < pair → At (7 + i) ≡ first_bad (segments_in s at 7 n)
-  stops k = sym (rw (le-ltb pair 100 (omega arith)) at next) ∙ p.same
-
-  pub goes_on : pair ≤ 99 → Passed s at n (i + 1)
-  goes_on k =
-      let z : 7 + (i + 1) ≡ suc (7 + i) = omega arith in
-      record { few = p.few; within = p.within; part = omega arith; same = rw z (sym (rw (lt-ltb pair 100 (omega arith)) at next) ∙ p.same) }
-
-pub ends : {s : List ℕ} {at n i : ℕ} → Passed s at n i → n ≤ i → Nowhere ≡ first_bad (segments_in s at 7 n)
-ends {s} {at} {n} {i} p h = let z : n - i ≡ 0 = omega arith in rw z at p.same
+  pub first_segment : (n i : ℕ) (r : Option ℕ) → First i n r → r ≡ first_bad (segments_in s at i n)
+  first_segment zero i None h = refl
+  first_segment zero i (Some j) (l, m, _, _) = absurd (omega arith)
+  first_segment (suc n) i None h = first_segment n (suc i) None (λ k l m. h k (omega arith) (omega arith)) ∙ skips i n (h i (omega arith) (omega arith))
+  first_segment (suc n) i (Some j) (l, m, e, f) = go (leb (suc i) j) refl (λ h. first_segment n (suc i) (Some j) (h, omega arith, e, λ k a b. f k (omega arith) b))
+    where
+      go : (t : Bool) → leb (suc i) j ≡ t → (suc i ≤ j → Some j ≡ first_bad (segments_in s at (suc i) n)) → Some j ≡ first_bad (segments_in s at i (suc n))
+      go true q more = let h = leb-true (suc i) j q in more h ∙ skips i n (f i (omega arith) h)
+      go false q more = let h : j ≡ i = omega (arith, leb-false (suc i) j q) in rw (pair i, ap bad (sym h) ∙ e, h)

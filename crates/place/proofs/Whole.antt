@@ -1,5 +1,5 @@
 -- A T-field that is all there, and the fields of one: where they begin, and that those of CUC have no rule to break.
-use mathlib.Core.Path.{◌≡◌, refl, sym, ◌∙◌}
+use mathlib.Core.Path.{◌≡◌, refl, sym, ap, ◌∙◌}
 use mathlib.Core.Bool.{Bool, true, false, cond, ◌&&◌}
 use mathlib.Core.List.{List, [], ◌++◌}
 use Prim.Native.Nat.{ℕ, ◌+◌, ◌<◌, ◌≤◌}
@@ -9,8 +9,6 @@ use lib.Dec.{leb, ltb}
 use lib.ListN.{length, get_or}
 use Rattle.base.proofs.Bools.{and_yes, and_false, and_no, cond_yes, cond_no}
 use Rattle.field.specs.Fields.{first_bad, offset}
-use Rattle.field.specs.declared.Place.{Place}
-use Rattle.field.specs.declared.Place.TheVariants.{At, Nowhere}
 use Rattle.cuc.specs.Cuc as U
 use Rattle.cuc.specs.declared.Layout as UL
 use Rattle.cuc.proofs.Layouts as UP
@@ -25,6 +23,7 @@ use Rattle.codes.specs.Reading.{width_of}
 use Rattle.place.specs.Binary.{cuc_fields, date_in, clock_in, segments_in, fields_by, fields_at}
 use Rattle.place.proofs.Numbers.{octets_kept}
 use Rattle.place.proofs.Starts.{Low, low_append, low_segments, place_low}
+use Rattle.std.specs.Prelude.{Option, Some, None}
 
 -- ---- a layout that there is
 pub cuc_wide : (l : UL.Layout) → 0 < U.width l → U.is_width l ≡ true
@@ -51,20 +50,20 @@ ccs_few l h = go (leb l.segments 6) refl h
 
 -- ---- its fields
 module _ (s : List ℕ) (at : ℕ) (l : Layout) where
-  pub no_layout : width_of l < 1 → [] ≡ fields_at s at l
+  pub no_layout : width_of l < 1 → None ≡ first_bad (fields_at s at l)
   unfolding fields_at
-  no_layout h = sym (cond_no _ _ (and_no _ (le-ltb 0 (width_of l) (omega arith))))
+  no_layout h = ap first_bad (sym (cond_no _ _ (and_no _ (le-ltb 0 (width_of l) (omega arith)))))
 
-  pub cut_short : leb (at + width_of l) (length s) ≡ false → [] ≡ fields_at s at l
+  pub cut_short : leb (at + width_of l) (length s) ≡ false → None ≡ first_bad (fields_at s at l)
   unfolding fields_at
-  cut_short e = sym (cond_no _ _ (and_false (ltb 0 (width_of l)) _ e))
+  cut_short e = ap first_bad (sym (cond_no _ _ (and_false (ltb 0 (width_of l)) _ e)))
 
   pub all_there : 0 < width_of l → at + width_of l ≤ length s → fields_by s at l ≡ fields_at s at l
   unfolding fields_at
   all_there h k = sym (cond_yes _ _ (and_yes _ (lt-ltb 0 (width_of l) h) ∙ le-leb (at + width_of l) (length s) k))
 
 -- any octets are a good count
-pub cuc_good : (s : List ℕ) (at : ℕ) (l : UL.Layout) → ((i : ℕ) → get_or s i 0 < 256) → 0 < U.width l → at + U.width l ≤ length s → Nowhere ≡ first_bad (cuc_fields s at l)
+pub cuc_good : (s : List ℕ) (at : ℕ) (l : UL.Layout) → ((i : ℕ) → get_or s i 0 < 256) → 0 < U.width l → at + U.width l ≤ length s → None ≡ first_bad (cuc_fields s at l)
 cuc_good s at l b h k =
     let e = cuc_wide l h in
     let (_, c, f) = UP.widths l e in
@@ -83,7 +82,7 @@ low_by s at (Ccs l) h =
     low_append 12 (date_in l.ordinal s at) (clock_in s at ++ segments_in s at 7 l.segments) (low_date l.ordinal s at)
     (low_append 12 (clock_in s at) (segments_in s at 7 l.segments) (omega arith, (omega arith, (omega arith, tt))) (low_segments s at 7 l.segments 12 (omega (arith, ccs_few l h))))
 
-pub starts_low : (s : List ℕ) (at : ℕ) (l : Layout) (n : ℕ) → first_bad (fields_at s at l) ≡ At n → n ≤ 12
+pub starts_low : (s : List ℕ) (at : ℕ) (l : Layout) (n : ℕ) → first_bad (fields_at s at l) ≡ Some n → n ≤ 12
 unfolding fields_at
 starts_low s at l n e = place_low 12 (fields_at s at l) n (go (ltb 0 (width_of l)) refl (leb (at + width_of l) (length s))) e
   where
@@ -95,6 +94,6 @@ starts_low s at l n e = place_low 12 (fields_at s at l) n (go (ltb 0 (width_of l
 pub offset_low : (s : List ℕ) (at : ℕ) (l : Layout) → offset (first_bad (fields_at s at l)) ≤ 12
 offset_low s at l = go (first_bad (fields_at s at l)) refl
   where
-    go : (p : Place) → first_bad (fields_at s at l) ≡ p → offset p ≤ 12
-    go (At n) e = starts_low s at l n e
-    go Nowhere e = omega arith
+    go : (p : Option ℕ) → first_bad (fields_at s at l) ≡ p → offset p ≤ 12
+    go (Some n) e = starts_low s at l n e
+    go None e = omega arith

@@ -1,37 +1,33 @@
 -- Where the first bad field of a binary code begins (document 02, request 3: "the offset of the first byte of the first field that breaks its rule, in the code's own order"), by the list of its fields with their rules (document 01, "The codes").
-use Rattle.std.specs.Prelude.{Bool, true, false, cond, ◌&&◌, List, [], ◌∷◌, ◌++◌, ℕ, zero, suc, ◌+◌, leb, ltb, ℤ, length}
+use Rattle.std.specs.Prelude.{Bool, true, false, cond, ◌&&◌, List, [], ◌∷◌, ◌++◌, ℕ, zero, suc, ◌+◌, leb, ltb, ℤ, length, Result, Option, Ok, Err, None}
 use Rattle.base.specs.Outcome.{Outcome, done, refused}
 use Rattle.octets.specs.Counts.{count_at, bcd_at}
-use Rattle.octets.specs.declared.Counted.{Counted}
-use Rattle.octets.specs.declared.Counted.TheVariants.{Done, Bad, Out}
 use Rattle.calendar.specs.Gregorian.{is_year}
 use Rattle.field.specs.Fields.{Field, field, first_bad, shifted, or_then}
 use Rattle.field.specs.Rules.{is_month, is_day, is_day_of_year, is_hour, is_minute, is_second}
-use Rattle.field.specs.declared.Place.{Place}
-use Rattle.field.specs.declared.Place.TheVariants.{Nowhere}
 use Rattle.cuc.specs.declared.Layout as U
 use Rattle.cds.specs.Cds.{parts}
 use Rattle.cds.specs.declared.Layout as D
 use Rattle.ccs.specs.declared.Layout as C
-use Rattle.pfield.specs.PField.{Headed, headed_of}
+use Rattle.pfield.specs.PField.{headed_of}
 use Rattle.pfield.specs.declared.Codes.{Codes}
 use Rattle.pfield.specs.declared.Layout.{Layout}
 use Rattle.pfield.specs.declared.Layout.TheVariants.{Cuc, Cds, Ccs}
 use Rattle.pfield.specs.declared.Preamble.{Preamble}
 use Rattle.codes.specs.Reading.{width_of}
+use Rattle.base.specs.declared.Refusal.{Refusal}
+use Rattle.pfield.specs.declared.Head.{Head}
 
 -- ---- a field of octets
 -- it can be read, and its number keeps the rule
-abbrev pub kept : Counted → (ℕ → Bool) → Bool
-kept (Done n) rule = rule n
-kept Bad rule = false
-kept Out rule = false
+abbrev pub kept : Result ℕ Refusal → (ℕ → Bool) → Bool
+kept (Ok n) rule = rule n
+kept (Err why) rule = false
 
 -- its number, of which a later field's rule speaks
-abbrev pub number_in : Counted → ℕ
-number_in (Done n) = n
-number_in Bad = 0
-number_in Out = 0
+abbrev pub number_in : Result ℕ Refusal → ℕ
+number_in (Ok n) = n
+number_in (Err why) = 0
 
 abbrev pub any : ℕ → Bool
 any n = true
@@ -82,20 +78,20 @@ unfoldable pub fields_at : List ℕ → ℕ → Layout → List Field
 fields_at s at l = cond (ltb 0 (width_of l) && leb (at + width_of l) (length s)) (fields_by s at l) []
 
 -- "elsewhere from the input's": counted from the start of the input
-abbrev pub place_in : List ℕ → ℕ → Layout → Place
+abbrev pub place_in : List ℕ → ℕ → Layout → Option ℕ
 place_in s at l = shifted at (first_bad (fields_at s at l))
 
 -- in a code whose P-field is read: of any other input nothing is told
-abbrev pub headed_place : (ℕ → Layout → Place) → Outcome Headed → Place
+abbrev pub headed_place : (ℕ → Layout → Option ℕ) → Outcome Head → Option ℕ
 headed_place f (done h) = f h.start h.layout
-headed_place f (refused n) = Nowhere
+headed_place f (refused n) = None
 
-unfoldable pub binary_place : List ℕ → Preamble → ℤ → Place
+unfoldable pub binary_place : List ℕ → Preamble → ℤ → Option ℕ
 binary_place s p e = headed_place (place_in s) (headed_of Codes.All s p e)
 
 -- ---- a CUC tag: "for extra bytes the first extra one"
 abbrev pub end_field : List ℕ → ℕ → Layout → List Field
 end_field s at l = let end = at + width_of l in field end (leb (length s) end) ∷ []
 
-unfoldable pub cuc_tag_place : List ℕ → Preamble → ℤ → Place
+unfoldable pub cuc_tag_place : List ℕ → Preamble → ℤ → Option ℕ
 cuc_tag_place s p e = headed_place (λ at l. or_then (place_in s at l) (first_bad (end_field s at l))) (headed_of Codes.Cuc s p e)

@@ -1,10 +1,8 @@
 -- Where the first bad field of an ASCII text begins (document 02, request 3: "An ASCII text of wrong shape gives the length of its longest start that also begins a permitted shape, whatever its digits; ranges are judged only in a right shape").
-use Rattle.std.specs.Prelude.{Bool, true, false, cond, List, ◌++◌, ℕ, ◌+◌, ◌-◌}
+use Rattle.std.specs.Prelude.{Bool, true, false, cond, List, ◌++◌, ℕ, ◌+◌, ◌-◌, Option, Some}
 use Rattle.shape.specs.Shapes.{Shapes, shaped, along}
 use Rattle.field.specs.Fields.{Field, first_bad}
 use Rattle.field.specs.Rules.{date_fields, ordinal_fields, clock_fields}
-use Rattle.field.specs.declared.Place.{Place}
-use Rattle.field.specs.declared.Place.TheVariants.{At}
 use Rattle.ascii.specs.Shapes.{code_shapes}
 use Rattle.ascii.specs.Ascii.{front_of, layout_of, number_at}
 use Rattle.tag.specs.Forms.{tag_shapes}
@@ -22,12 +20,12 @@ abbrev pub code_fields : List ℕ → List Field
 code_fields s = let ordinal = (layout_of s).ordinal in date_of ordinal s ++ clock_of s (front_of ordinal - 8)
 
 -- the first bad field of a text that has one of the shapes, or how far any other goes along one
-abbrev pub place_by : Shapes → (List ℕ → List Field) → List ℕ → Place
-place_by ps fields s = cond (shaped ps s) (first_bad (fields s)) (At (along ps s))
+abbrev pub place_by : Shapes → (List ℕ → List Field) → List ℕ → Option ℕ
+place_by ps fields s = cond (shaped ps s) (first_bad (fields s)) (Some (along ps s))
 
-unfoldable pub text_place : List ℕ → Place
+unfoldable pub text_place : List ℕ → Option ℕ
 text_place s = place_by code_shapes code_fields s
 
 -- the permitted shapes are those of all tags, full codes included
-unfoldable pub tag_place : List ℕ → Place
+unfoldable pub tag_place : List ℕ → Option ℕ
 tag_place s = place_by tag_shapes fields_of s

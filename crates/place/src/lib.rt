@@ -1,4 +1,4 @@
-// Where the first bad field of an input begins, which is what a refusal 4 carries. Nothing here is asked of an input that
+// Where the first bad field of an input begins, which is what a refusal 4 is to carry. Nothing here is asked of an input that
 // is read.
 #![tactic(auto)]
 
@@ -18,202 +18,150 @@ ghost use Rattle.place.specs.Binary.{
   cuc_tag_place,
 };
 ghost use Rattle.place.specs.Text.{text_place, tag_place};
-ghost use Rattle.place.specs.Inner.{number_of};
 
-use field::{Place, Starts};
-use fit::Fit;
-use octets::Counted;
 use pfield::{Codes, Head, Layout, Preamble};
 
 // In an ASCII code.
-pub fn in_text(s: &[u8]) -> Place
+pub fn in_text(s: &[u8]) -> Option<usize>
     ensures { result ≡ text_place s.now }
 {
     match fit::code_fit(s) {
-        Fit::Wrong(n) => Place::At(n),
-        Fit::Right => tag::fields::bad_field(s),
+        Err(n) => Some(n),
+        Ok(()) => tag::fields::bad_field(s),
     }
 }
 
 // In a shortened ASCII tag.
-pub fn in_tag(s: &[u8]) -> Place
+pub fn in_tag(s: &[u8]) -> Option<usize>
     ensures { result ≡ tag_place s.now }
 {
     match fit::tag_fit(s) {
-        Fit::Wrong(n) => Place::At(n),
-        Fit::Right => tag::fields::bad_field(s),
+        Err(n) => Some(n),
+        Ok(()) => tag::fields::bad_field(s),
     }
 }
 
 // In a binary code, whose P-field is in front or apart.
-pub fn in_binary(s: &[u8], p: Preamble, epoch: i64) -> Place
+pub fn in_binary(s: &[u8], p: Preamble, epoch: i64) -> Option<usize>
     ensures { result ≡ binary_place s.now p epoch }
 {
-    match pfield::read(s, p, Codes::All, epoch) {
-        Head::Refused(_) => Place::Nowhere,
-        Head::Done(l, at) => behind(s, at, l),
-    }
+    let Head { layout, start } = pfield::read(s, p, Codes::All, epoch).ok()?;
+    behind(s, start, layout)
 }
 
 // In a CUC tag: what follows its T-field is no part of it.
-pub fn in_cuc_tag(s: &[u8], p: Preamble, epoch: i64) -> Place
+#[tactic(auto, using(crate::proofs::Heads::head_low))]
+pub fn in_cuc_tag(s: &[u8], p: Preamble, epoch: i64) -> Option<usize>
     ensures { result ≡ cuc_tag_place s.now p epoch }
 {
-    match pfield::read(s, p, Codes::Cuc, epoch) {
-        Head::Refused(_) => Place::Nowhere,
-        Head::Done(l, at) => {
-            let first = behind(s, at, l);
-            match first {
-                Place::At(n) => Place::At(n),
-                Place::Nowhere => past(s, at, l),
-            }
-        }
-    }
+    let Head { layout, start } = pfield::read(s, p, Codes::Cuc, epoch).ok()?;
+    behind(s, start, layout).or_else(|| past(s, start, layout))
 }
 
 // In the T-field of a layout that starts at `at`, counted from there. One that is not all there has none.
-pub fn in_field(s: &[u8], at: usize, l: Layout) -> Place
+#[tactic(auto, using(crate::proofs::Whole::no_layout, crate::proofs::Whole::cut_short))]
+pub fn in_field(s: &[u8], at: usize, l: Layout) -> Option<usize>
     ensures { result ≡ first_bad (fields_at s.now at l) }
 {
     let w = codes::size(l);
-    if w < 1 {
-        return Place::Nowhere;
-    }
-    let len = s.len();
-    if !octets::fits(len, at, w) {
-        return Place::Nowhere;
+    if w < 1 || !octets::fits(s.len(), at, w) {
+        return None;
     }
     match l {
         // any octets are a good count
-        Layout::Cuc(_) => Place::Nowhere,
+        Layout::Cuc(_) => None,
         Layout::Cds(d) => in_cds(s, at, d),
         Layout::Ccs(c) => in_ccs(s, at, c),
     }
 }
 
 // The same, counted from the input's start.
-fn behind(s: &[u8], at: usize, l: Layout) -> Place
+#[tactic(auto, using(crate::proofs::Whole::starts_low))]
+fn behind(s: &[u8], at: usize, l: Layout) -> Option<usize>
     requires { at ≤ 1 }
     ensures { result ≡ place_in s.now at l }
 {
-    let first = in_field(s, at, l);
-    match first {
-        Place::At(n) => Place::At(at + n),
-        Place::Nowhere => Place::Nowhere,
-    }
+    in_field(s, at, l).map(|n| at + n)
 }
 
 // The first byte behind a T-field.
-fn past(s: &[u8], at: usize, l: Layout) -> Place
+#[tactic(auto, using(codes::proofs::Fields::width_low))]
+fn past(s: &[u8], at: usize, l: Layout) -> Option<usize>
     requires { at ≤ 1 }
     ensures { result ≡ first_bad (end_field s.now at l) }
 {
     let end = at + codes::size(l);
-    if end < s.len() {
-        return Place::At(end);
-    }
-    Place::Nowhere
+    (end < s.len()).then_some(end)
 }
 
 // Millisecond, then remainder; the day has no rule.
-fn in_cds(s: &[u8], at: usize, l: cds::Layout) -> Place
+fn in_cds(s: &[u8], at: usize, l: cds::Layout) -> Option<usize>
     requires { (is_width l ≡ true) × (at + (l.day + 4 + l.part) ≤ length s.now) }
     ensures { result ≡ first_bad (cds_fields s.now at l) }
 {
-    let day = l.day;
-    let part = l.part;
-    let m = number_of(octets::count(s, at + day, 4));
-    if 86400999 < m {
-        return Place::At(day);
+    let milliseconds = octets::count(s, at + l.day, 4);
+    if !milliseconds.is_ok_and(|m| m <= cds::LAST_MILLISECOND) {
+        return Some(l.day);
     }
-    let p = number_of(octets::count(s, at + day + 4, part));
-    if cds::parts(part) <= p {
-        return Place::At(day + 4);
+    let remainder = octets::count(s, at + l.day + 4, l.part);
+    if !remainder.is_ok_and(|p| p < cds::parts(l.part)) {
+        return Some(l.day + 4);
     }
-    Place::Nowhere
+    None
 }
 
 // Date, clock, then each pair of fraction digits.
-fn in_ccs(s: &[u8], at: usize, l: ccs::Layout) -> Place
+fn in_ccs(s: &[u8], at: usize, l: ccs::Layout) -> Option<usize>
     requires { (l.segments ≤ 6) × (at + (7 + l.segments) ≤ length s.now) }
     ensures { result ≡ first_bad (ccs_fields s.now at l) }
 {
-    let date = in_date(s, at, l.ordinal);
-    match date {
-        Place::At(n) => Place::At(n),
-        Place::Nowhere => {
-            let clock = in_clock(s, at);
-            match clock {
-                Place::At(n) => Place::At(n),
-                Place::Nowhere => in_segments(s, at, l.segments),
-            }
-        }
-    }
+    in_date(s, at, l.ordinal)
+        .or_else(|| in_clock(s, at))
+        .or_else(|| in_segments(s, at, l.segments))
 }
 
-fn in_date(s: &[u8], at: usize, ordinal: bool) -> Place
+// By the rules of `field`, which takes numbers: a field that is none is bad in its own place, and before the fields behind it.
+fn in_date(s: &[u8], at: usize, ordinal: bool) -> Option<usize>
     requires { at + 7 ≤ length s.now }
     ensures { result ≡ first_bad (date_in ordinal s.now at) }
 {
-    let year = number_of(octets::bcd(s, at, 2));
-    if ordinal {
-        let of_year = number_of(octets::bcd(s, at + 2, 2));
-        let starts = Starts {
-            first: 0,
-            second: 2,
-            third: 0,
-        };
-        return field::in_ordinal(starts, year, of_year);
-    }
-    let month = number_of(octets::bcd(s, at + 2, 1));
-    let day = number_of(octets::bcd(s, at + 3, 1));
-    let starts = Starts {
-        first: 0,
-        second: 2,
-        third: 3,
+    let year = octets::bcd(s, at, 2).ok();
+    let Some(year) = year.filter(|y| (1..=9999).contains(y)) else {
+        return Some(0);
     };
-    field::in_date(starts, year, month, day)
+    if ordinal {
+        let day = octets::bcd(s, at + 2, 2);
+        let good = day.is_ok_and(|d| calendar::is_ordinal(year, d));
+        return (!good).then_some(2);
+    }
+    let month = octets::bcd(s, at + 2, 1).ok();
+    let Some(month) = month.filter(|m| (1..=12).contains(m)) else {
+        return Some(2);
+    };
+    let day = octets::bcd(s, at + 3, 1);
+    let good = day.is_ok_and(|d| calendar::is_date(year, month, d));
+    (!good).then_some(3)
 }
 
-fn in_clock(s: &[u8], at: usize) -> Place
+fn in_clock(s: &[u8], at: usize) -> Option<usize>
     requires { at + 7 ≤ length s.now }
     ensures { result ≡ first_bad (clock_in s.now at) }
 {
-    let hour = number_of(octets::bcd(s, at + 4, 1));
-    let minute = number_of(octets::bcd(s, at + 5, 1));
-    let second = number_of(octets::bcd(s, at + 6, 1));
-    let starts = Starts {
-        first: 4,
-        second: 5,
-        third: 6,
+    let Some(hour) = octets::bcd(s, at + 4, 1).ok().filter(|&h| h <= 23) else {
+        return Some(4);
     };
-    field::in_clock(starts, hour, minute, second)
+    let Some(minute) = octets::bcd(s, at + 5, 1).ok().filter(|&m| m <= 59) else {
+        return Some(5);
+    };
+    let second = octets::bcd(s, at + 6, 1);
+    let good = second.is_ok_and(|x| clock::is_clock(hour, minute, x));
+    (!good).then_some(6)
 }
 
 // Two digits in each octet.
-fn in_segments(s: &[u8], at: usize, segments: usize) -> Place
+fn in_segments(s: &[u8], at: usize, segments: usize) -> Option<usize>
     requires { (segments ≤ 6) × (at + (7 + segments) ≤ length s.now) }
     ensures { result ≡ first_bad (segments_in s.now at 7 segments) }
 {
-    let mut i = 0;
-    while i < segments {
-        let place = 7 + i;
-        let pair = number_of(octets::bcd(s, at + place, 1));
-        if 99 < pair {
-            return Place::At(place);
-        }
-        i += 1;
-    }
-    Place::Nowhere
-}
-
-// A field's number, or the greatest of all, which no rule takes, where it has none.
-fn number_of(c: Counted) -> u64
-    ensures { result ≡ number_of c }
-{
-    match c {
-        Counted::Done(n) => n,
-        Counted::Bad => 18446744073709551615,
-        Counted::Out => 18446744073709551615,
-    }
+    (7..7 + segments).find(|&i| octets::bcd(s, at + i, 1).is_err())
 }

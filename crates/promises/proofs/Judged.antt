@@ -10,8 +10,6 @@ use lib.ListN.{length, drop}
 use Rattle.base.proofs.Bools.{and_false, and_yes, cond_yes}
 use Rattle.octets.specs.Places.{number, all_good, octet_value, octet_good, bcd_value, bcd_good}
 use Rattle.octets.specs.Counts.{count_of, count_at, bcd_at}
-use Rattle.octets.specs.declared.Counted.{Counted}
-use Rattle.octets.specs.declared.Counted.TheVariants.{Done, Bad}
 use Rattle.octets.proofs.Places.{bcd_rule, number_lt}
 use Rattle.calendar.specs.Gregorian.{is_year, is_date, is_ordinal}
 use Rattle.clock.specs.Clock.{clock_ok}
@@ -35,10 +33,13 @@ use Rattle.place.proofs.Whole.{all_there}
 use Rattle.promises.specs.RungsBinary.{count_in, pairs_in, milli_in, part_in, part_good, date_good, clock_good, octets_of, field_good}
 use Rattle.promises.proofs.RungsFields.{good_from_lem, part_is, octets_good, pairs_good}
 use Rattle.promises.proofs.RungsReceiver.{width_octets}
+use Rattle.std.specs.Prelude.{Result, Ok, Err}
+use Rattle.base.specs.declared.Refusal.{Refusal}
+use Rattle.base.specs.declared.Refusal.TheVariants as Why
 
 -- ---- a run that is there is good, or bad
-abbrev told : Bool → ℕ → Counted
-told g n = cond g (Done n) Bad
+abbrev told : Bool → ℕ → Result ℕ Refusal
+told g n = cond g (Ok n) (Err Why.Field)
 
 module _ (b : ℕ) (v : ℕ → ℕ) (ok : ℕ → Bool) (widest : ℕ) (s : List ℕ) (at w : ℕ) (narrow : leb w widest ≡ true) (there : at + w ≤ length s) where
   run_told : count_of b v ok widest s at w ≡ told (all_good ok (drop at s) w) (number b v (drop at s) w)
@@ -66,8 +67,8 @@ cuc_judged s at l h k =
     let g = UL.layout_good l h in
     two_none 0 l.coarse (kept (count_at s at l.coarse) any) (kept (count_at s (at + l.coarse) l.fine) any)
     ∙ ap₂ ◌&&◌
-    (ap (λ (c : Counted). kept c any) (octets_told s at l.coarse (omega (arith, g.narrow)) (omega arith)) ∙ kept_any (all_good octet_good (drop at s) l.coarse) (count_in s at l.coarse))
-    (ap (λ (c : Counted). kept c any) (octets_told s (at + l.coarse) l.fine (omega (arith, g.short)) (omega arith)) ∙ kept_any (all_good octet_good (drop (at + l.coarse) s) l.fine) (count_in s (at + l.coarse) l.fine))
+    (ap (λ (c : Result ℕ Refusal). kept c any) (octets_told s at l.coarse (omega (arith, g.narrow)) (omega arith)) ∙ kept_any (all_good octet_good (drop at s) l.coarse) (count_in s at l.coarse))
+    (ap (λ (c : Result ℕ Refusal). kept c any) (octets_told s (at + l.coarse) l.fine (omega (arith, g.short)) (omega arith)) ∙ kept_any (all_good octet_good (drop (at + l.coarse) s) l.fine) (count_in s (at + l.coarse) l.fine))
     ∙ sym (good_from_lem octet_good s at l.coarse l.fine)
 
 -- ---- CDS
@@ -87,10 +88,10 @@ cds_judged s at l h k =
     let m = leb (milli_in s at l) 86400999 in
     three_none 0 l.day (l.day + 4) (kept (count_at s at l.day) any) (kept (count_at s (at + l.day) 4) (λ m. leb m 86400999)) (kept (count_at s (at + l.day + 4) l.part) (λ p. ltb p (D.parts l.part)))
     ∙ ap₂ ◌&&◌
-    (ap (λ (c : Counted). kept c any) (octets_told s at l.day (omega (arith, g.day)) (omega arith)) ∙ kept_any a (count_in s at l.day))
+    (ap (λ (c : Result ℕ Refusal). kept c any) (octets_told s at l.day (omega (arith, g.day)) (omega arith)) ∙ kept_any a (count_in s at l.day))
     (ap₂ ◌&&◌
-    (ap (λ (c : Counted). kept c (λ m. leb m 86400999)) (octets_told s (at + l.day) 4 (omega arith) (omega arith)) ∙ kept_told b _ (λ m. leb m 86400999))
-    (ap (λ (c : Counted). kept c (λ p. ltb p (D.parts l.part))) (octets_told s (at + l.day + 4) l.part (omega (arith, g.part)) (omega arith)) ∙ kept_told c _ (λ p. ltb p (D.parts l.part)) ∙ ap (λ (t : Bool). c && t) (part_is l.part (drop (at + l.day + 4) s))))
+    (ap (λ (c : Result ℕ Refusal). kept c (λ m. leb m 86400999)) (octets_told s (at + l.day) 4 (omega arith) (omega arith)) ∙ kept_told b _ (λ m. leb m 86400999))
+    (ap (λ (c : Result ℕ Refusal). kept c (λ p. ltb p (D.parts l.part))) (octets_told s (at + l.day + 4) l.part (omega (arith, g.part)) (omega arith)) ∙ kept_told c _ (λ p. ltb p (D.parts l.part)) ∙ ap (λ (t : Bool). c && t) (part_is l.part (drop (at + l.day + 4) s))))
     ∙ sorted_three a b c m (part_good l.part (part_in s at l))
     ∙ ap (λ (t : Bool). t && (m && part_good l.part (part_in s at l))) (octets_good s at l h)
 
@@ -136,7 +137,7 @@ clock_judged s at k =
 
 pair_kept : (s : List ℕ) (at : ℕ) → at + 1 ≤ length s → kept (bcd_at s at 1) (λ d. ltb d 100) ≡ all_good bcd_good (drop at s) 1
 pair_kept s at k =
-    ap (λ (c : Counted). kept c (λ d. ltb d 100)) (pairs_told s at 1 (omega arith) k)
+    ap (λ (c : Result ℕ Refusal). kept c (λ d. ltb d 100)) (pairs_told s at 1 (omega arith) k)
     ∙ kept_told (all_good bcd_good (drop at s) 1) (pairs_in s at 1) (λ d. ltb d 100)
     ∙ go (all_good bcd_good (drop at s) 1) refl
   where

@@ -16,12 +16,13 @@ use Rattle.scale.specs.Time.{Time}
 use Rattle.leap.specs.Table.{Table}
 use Rattle.utc.specs.Reckoning.{reckons}
 use Rattle.window.specs.Among.{Among, here, there, Ascending, first}
-use Rattle.window.specs.Window.{Listed, Named, listed, list_filled, leaves}
+use Rattle.window.specs.Window.{Named, listed, list_filled, leaves}
 use Rattle.listing.specs.Records.{IsListed, Sooner}
 use Rattle.listing.proofs.CucPromises as C
 use Rattle.listing.proofs.AsciiPromises as A
 use Rattle.promises.proofs.Counters.{counted_names}
 use Rattle.promises.specs.Promises.{Shortened, counter, letters, list_by, Wanted, Lists}
+use Rattle.window.specs.declared.Listed.{Listed}
 
 -- ---- a list cut in two
 module _ {B : Type 0} where

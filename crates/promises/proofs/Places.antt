@@ -17,13 +17,12 @@ use Rattle.leap.specs.Table.{Table}
 use Rattle.window.specs.Window.{Named}
 use Rattle.shape.specs.Shapes.{shaped, along}
 use Rattle.field.specs.Fields.{first_bad, shifted, or_then, carried}
-use Rattle.field.specs.declared.Place.{Place}
-use Rattle.field.specs.declared.Place.TheVariants.{At, Nowhere}
 use Rattle.field.proofs.Laws.{is_nowhere, nowhere_is, somewhere_is, first_append, none_field, none_then, date_none, ordinal_none, clock_none}
 use Rattle.cuc.specs.Cuc as U
 use Rattle.ascii.specs.Shapes.{code_shapes}
 use Rattle.ascii.specs.Ascii.{number_at}
-use Rattle.pfield.specs.PField.{Headed, headed, headed_of, ident, allows, laid, laid_as, octet}
+use Rattle.pfield.specs.PField.{headed, headed_of, ident, allows, laid, laid_as, octet}
+use Rattle.pfield.specs.declared.Head.{Head}
 use Rattle.pfield.specs.declared.Codes.{Codes}
 use Rattle.pfield.specs.declared.PField.{PField}
 use Rattle.pfield.specs.declared.Preamble.{Preamble}
@@ -50,13 +49,14 @@ use Rattle.promises.specs.Octet.{unextended}
 use Rattle.promises.specs.RungsBinary as B
 use Rattle.promises.specs.RungsAscii as A
 use Rattle.promises.specs.RungsTags.{is_tag}
-use Rattle.promises.specs.Places.{Reads, binary, text, cuc_tag, tag, Some, Carries}
+use Rattle.promises.specs.Places.{Reads, binary, text, cuc_tag, tag, Begins, Carries}
 use Rattle.promises.proofs.Rungs.{climb, by_rungs, broken_judged, given_climb}
 use Rattle.promises.proofs.RungsFields.{field_rungs_lem}
 use Rattle.promises.proofs.RungsCalls.{read_ascii_lem, list_ascii_lem}
 use Rattle.promises.proofs.RungsBinary.{laid_climbs}
 use Rattle.promises.proofs.RungsTags.{cuc_laid_lem, window_rungs, periodic_rungs}
 use Rattle.promises.proofs.Judged.{fields_judged}
+use Rattle.std.specs.Prelude.{Option, Some, None}
 
 -- ---- rungs of other numbers than 4 are passed
 other : {n : ℕ} {r : Rung} {rs : List Rung} → (r.number ≡ n → ⊥) → Broken n (r ∷ rs) → (r.holds ≡ true) × Broken n rs
@@ -105,34 +105,34 @@ headed_not c s (Given p) e = not_given (headed 0) (laid c p e) (laid_not c p e)
 headed_not c s Front e =
     not_need (leb 1 (length s)) 1 (given (headed 1) (laid c (octet (get_or s 0 0)) e)) (λ z. omega (arith, z)) (not_given (headed 1) (laid c (octet (get_or s 0 0)) e) (laid_not c (octet (get_or s 0 0)) e))
 
-headed_good : (c : Codes) (s : List ℕ) (p : Preamble) (e : ℤ) (h : Headed) → headed_of c s p e ≡ done h → is_layout_of h.layout ≡ true
+headed_good : (c : Codes) (s : List ℕ) (p : Preamble) (e : ℤ) (h : Head) → headed_of c s p e ≡ done h → is_layout_of h.layout ≡ true
 unfolding headed_of
-headed_good c s (Given p) e h k = let (l, (a, b)) = given_done (headed 0) (laid c p e) h k in ap (λ (x : Headed). is_layout_of x.layout) (sym b) ∙ laid_good c p e l a
+headed_good c s (Given p) e h k = let (l, (a, b)) = given_done (headed 0) (laid c p e) h k in ap (λ (x : Head). is_layout_of x.layout) (sym b) ∙ laid_good c p e l a
 headed_good c s Front e h k =
     let (_, j) = need_done (leb 1 (length s)) 1 _ h k in
     let (l, (a, b)) = given_done (headed 1) (laid c (octet (get_or s 0 0)) e) h j in
-    ap (λ (x : Headed). is_layout_of x.layout) (sym b) ∙ laid_good c (octet (get_or s 0 0)) e l a
+    ap (λ (x : Head). is_layout_of x.layout) (sym b) ∙ laid_good c (octet (get_or s 0 0)) e l a
 
 -- ---- what an outcome carries
 is_4 : {A : Type 0} (x : Outcome A) → status x ≡ 4 → x ≡ refused 4
 is_4 (done a) e = absurd (omega arith)
 is_4 (refused n) e = ap refused e
 
-nowhere_not : {X : Type 0} (n : ℕ) → ◌≡◌ {A = Place} Nowhere (At n) → X
+nowhere_not : {X : Type 0} (n : ℕ) → ◌≡◌ {A = Option ℕ} None (Some n) → X
 nowhere_not n e = absurd (let z : ◌≡◌ {A = ℕ} 0 1 = cc in let y : ⊥ = omega arith in y)
 
 -- given that a refusal 4 has a bad field, and what is done none
-carries : {A : Type 0} (x : Outcome A) (p : Place) → (x ≡ refused 4 → is_nowhere p ≡ false) → ((a : A) → x ≡ done a → is_nowhere p ≡ true) → Carries x p
+carries : {A : Type 0} (x : Outcome A) (p : Option ℕ) → (x ≡ refused 4 → is_nowhere p ≡ false) → ((a : A) → x ≡ done a → is_nowhere p ≡ true) → Carries x p
 carries {A} x p f g = record { exactly = (only (eqb (status x) 4) refl, there); its = its; none = λ a e. nowhere_is p (g a e) }
   where
-    only : (b : Bool) → eqb (status x) 4 ≡ b → Some (cond b p Nowhere) → x ≡ refused 4
+    only : (b : Bool) → eqb (status x) 4 ≡ b → Begins (cond b p None) → x ≡ refused 4
     only true e s = is_4 x (eqb-true (status x) 4 e)
     only false e (n, k) = nowhere_not n k
 
     its : x ≡ refused 4 → carried x p ≡ p
     its e = ap (λ (y : Outcome A). carried y p) e
 
-    there : x ≡ refused 4 → Some (carried x p)
+    there : x ≡ refused 4 → Begins (carried x p)
     there e = let (n, k) = somewhere_is p (f e) in (n, its e ∙ k)
 
 -- ---- a T-field
@@ -153,9 +153,9 @@ module _ (t : Table) (s : List ℕ) (at : ℕ) (l : Layout) (good : is_layout_of
       let (g, _) = and_true (B.field_good s at l) _ b in
       fields_judged s at l good h ∙ g
 
-shifted_none : (n : ℕ) (p : Place) → is_nowhere (shifted n p) ≡ is_nowhere p
-shifted_none n (At i) = refl
-shifted_none n Nowhere = refl
+shifted_none : (n : ℕ) (p : Option ℕ) → is_nowhere (shifted n p) ≡ is_nowhere p
+shifted_none n (Some i) = refl
+shifted_none n None = refl
 
 given_4 : {A C : Type 0} (f : A → C) (x : Outcome A) → given f x ≡ refused 4 → x ≡ refused 4
 given_4 f (done a) e = never 4 (f a) (sym e)
@@ -169,9 +169,9 @@ binary_carries t s p e = carries (scan_of t s p e) (binary_place s p e) bad read
     bad : scan_of t s p e ≡ refused 4 → is_nowhere (binary_place s p e) ≡ false
     bad k =
         ⊎_elim (λ (z : headed_of Codes.All s p e ≡ refused 4). absurd (headed_not Codes.All s p e z))
-        (λ (x : (h : Headed) × ((headed_of Codes.All s p e ≡ done h) × (scan_in t s h.start h.layout ≡ refused 4))).
+        (λ (x : (h : Head) × ((headed_of Codes.All s p e ≡ done h) × (scan_in t s h.start h.layout ≡ refused 4))).
         let (h, (i, j)) = x in
-        ap (λ (y : Outcome Headed). is_nowhere (headed_place (place_in s) y)) i
+        ap (λ (y : Outcome Head). is_nowhere (headed_place (place_in s) y)) i
         ∙ shifted_none h.start (first_bad (fields_at s h.start h.layout))
         ∙ field_bad t s h.start h.layout (headed_good Codes.All s p e h i) (given_4 _ _ j))
         (then_refused (headed_of Codes.All s p e) (λ h. scan_in t s h.start h.layout) 4 k)
@@ -180,7 +180,7 @@ binary_carries t s p e = carries (scan_of t s p e) (binary_place s p e) bad read
     read a k =
         let (h, (i, j)) = then_done (headed_of Codes.All s p e) (λ h. scan_in t s h.start h.layout) a k in
         let (m, (f, _)) = given_done _ (field_of t s h.start h.layout) a j in
-        ap (λ (y : Outcome Headed). is_nowhere (headed_place (place_in s) y)) i
+        ap (λ (y : Outcome Head). is_nowhere (headed_place (place_in s) y)) i
         ∙ shifted_none h.start (first_bad (fields_at s h.start h.layout))
         ∙ field_good_lem t s h.start h.layout (headed_good Codes.All s p e h i) m f
 
@@ -199,7 +199,7 @@ text_judged s = go (shaped code_shapes s)
         ∙ none_then (first_bad (date_of (A.is_b s) s)) (first_bad (clock_of s (A.clock_in s)))
         ∙ ap₂ ◌&&◌ (dates (A.is_b s)) (clock_none (A.clock_in s) (A.clock_in s + 3) (A.clock_in s + 6) (number_at s (A.clock_in s) 2) (number_at s (A.clock_in s + 3) 2) (number_at s (A.clock_in s + 6) 2))
 
-    go : (b : Bool) → is_nowhere (cond b (first_bad (code_fields s)) (At (along code_shapes s))) ≡ b && (A.date_good (A.is_b s) s && A.clock_good s (A.clock_in s))
+    go : (b : Bool) → is_nowhere (cond b (first_bad (code_fields s)) (Some (along code_shapes s))) ≡ b && (A.date_good (A.is_b s) s && A.clock_good s (A.clock_in s))
     go true = both
     go false = refl
 
@@ -219,7 +219,7 @@ tag_judged : (s : List ℕ) → is_nowhere (tag_place s) ≡ is_tag (formed s)
 unfolding tag_place
 tag_judged s = go (shaped tag_shapes s) refl
   where
-    go : (b : Bool) → shaped tag_shapes s ≡ b → is_nowhere (cond b (first_bad (fields_of s)) (At (along tag_shapes s))) ≡ is_tag (formed s)
+    go : (b : Bool) → shaped tag_shapes s ≡ b → is_nowhere (cond b (first_bad (fields_of s)) (Some (along tag_shapes s))) ≡ is_tag (formed s)
     go true e = let (w, f) = shaped_formed s e in fields_none s w f ∙ sym (ap is_tag f)
     go false e = sym (ap is_tag (unshaped_4 s e))
 
@@ -245,12 +245,12 @@ end_none s at l = none_field (at + width_of l) (leb (length s) (at + width_of l)
 abbrev tag_kept : List ℕ → ℕ → Layout → Bool
 tag_kept s at l = is_nowhere (first_bad (fields_at s at l)) && leb (length s) (at + width_of l)
 
-cuc_judged : (s : List ℕ) (p : Preamble) (e : ℤ) (h : Headed) → headed_of Codes.Cuc s p e ≡ done h → is_nowhere (cuc_tag_place s p e) ≡ tag_kept s h.start h.layout
+cuc_judged : (s : List ℕ) (p : Preamble) (e : ℤ) (h : Head) → headed_of Codes.Cuc s p e ≡ done h → is_nowhere (cuc_tag_place s p e) ≡ tag_kept s h.start h.layout
 unfolding cuc_tag_place
 cuc_judged s p e h i =
     let at = h.start in
     let l = h.layout in
-    ap (λ (y : Outcome Headed). is_nowhere (headed_place (λ at l. or_then (place_in s at l) (first_bad (end_field s at l))) y)) i
+    ap (λ (y : Outcome Head). is_nowhere (headed_place (λ at l. or_then (place_in s at l) (first_bad (end_field s at l))) y)) i
     ∙ none_then (place_in s at l) (first_bad (end_field s at l))
     ∙ ap₂ ◌&&◌ (shifted_none at (first_bad (fields_at s at l))) (end_none s at l)
 
@@ -291,7 +291,7 @@ cuc_tag_carries t s p e since before = carries (L.list_cuc s p e since before) (
     tagged : periodic_of s p e ≡ refused 4 → is_nowhere (cuc_tag_place s p e) ≡ false
     tagged k =
         ⊎_elim (λ (z : headed_of Codes.Cuc s p e ≡ refused 4). absurd (headed_not Codes.Cuc s p e z))
-        (λ (x : (h : Headed) × ((headed_of Codes.Cuc s p e ≡ done h) × (tag_in s h.start h.layout ≡ refused 4))).
+        (λ (x : (h : Head) × ((headed_of Codes.Cuc s p e ≡ done h) × (tag_in s h.start h.layout ≡ refused 4))).
         let (h, (i, j)) = x in
         cuc_judged s p e h i ∙ with_bad t s h.start h.layout (headed_good Codes.Cuc s p e h i) j)
         (then_refused (headed_of Codes.Cuc s p e) (λ h. tag_in s h.start h.layout) 4 k)
@@ -308,7 +308,7 @@ cuc_tag_carries t s p e since before = carries (L.list_cuc s p e since before) (
         cuc_judged s p e h j ∙ with_good t s h.start h.layout (headed_good Codes.Cuc s p e h j) g m
 
 -- ==== all calls that read: a refusal carries an offset exactly when its number is 4, and it is that of the first bad field
-pub calls_carry : (t : Table) (c : P.Call) (p : Place) → Reads c p → Carries (P.outcome_of t c) p
+pub calls_carry : (t : Table) (c : P.Call) (p : Option ℕ) → Reads c p → Carries (P.outcome_of t c) p
 calls_carry t c p (binary s front o e) = binary_carries t s (from front (octet o)) e
 calls_carry t c p (text s) = text_carries t s
 calls_carry t c p (cuc_tag s front o e since before) = cuc_tag_carries t s (from front (octet o)) e since before

@@ -42,7 +42,7 @@ use Rattle.receiver.specs.Answers.{rows_after}
 use Rattle.receiver.specs.declared.Receiver.{Receiver}
 use Rattle.receiver.proofs.Promises.{as_read}
 use Rattle.window.specs.Among.{Among}
-use Rattle.window.specs.Window.{Listed, Named, listed, leaves}
+use Rattle.window.specs.Window.{Named, listed, leaves}
 use Rattle.promises.specs.Promises.{Call, outcome_of, Done, Refused, last_number, read_under, code_in, OfSetting, Holdable, Yields, Ready, Holds, FitsIn, Outside, second, Shows, SecondApart, Shortened, list_by, Lists}
 use Rattle.promises.specs.RungsCalls.{rungs_of}
 use Rattle.promises.proofs.Rungs.{ends_by, answers_by}
@@ -51,6 +51,7 @@ use Rattle.promises.proofs.Settings as S
 use Rattle.promises.proofs.Ranges as R
 use Rattle.promises.proofs.Scale as Z
 use Rattle.promises.proofs.Listings as T
+use Rattle.window.specs.declared.Listed.{Listed}
 
 -- ==== 1
 -- "Every entry point takes any bytes, any record, any settings and any room, and ends with a result or one of nine numbered refusals", joined by 10 and 11 (document 02); given exactly when documents 01 and 02 say: proofs/RungsCalls

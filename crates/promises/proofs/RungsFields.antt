@@ -15,10 +15,7 @@ use Rattle.base.proofs.Ladders.{need_yes, needs_yes}
 use Rattle.scale.specs.Time.{Time}
 use Rattle.octets.specs.Places.{number, all_good, be, octet_value, octet_good, bcd_value, bcd_good}
 use Rattle.octets.specs.Counts.{count_of, count_at}
-use Rattle.octets.specs.Writes.{says_counted}
 use Rattle.octets.proofs.Places.{good_split, all_good_lem}
-use Rattle.octets.specs.declared.Counted.{Counted}
-use Rattle.octets.specs.declared.Counted.TheVariants.{Done, Bad, Out}
 use Rattle.calendar.specs.Gregorian.{index_of_date, index_of_ordinal, day_of_date, day_of_ordinal, from_epoch}
 use Rattle.clock.specs.Clock.{clock_of}
 use Rattle.clock.proofs.Laws.{shows}
@@ -42,6 +39,10 @@ use Rattle.promises.specs.RungsBinary.{count_in, pairs_in, milli_in, part_in, pa
 use Rattle.promises.specs.Rungs.{Rung, rung, all_hold}
 use Rattle.promises.proofs.Rungs.{verdict, judged, climb, step, need_both, then_need, rung_so, both_ways, given_need}
 use Rattle.promises.proofs.RungsCalendar.{read_rungs}
+use Rattle.base.specs.Said.{said}
+use Rattle.std.specs.Prelude.{Result, Ok, Err}
+use Rattle.base.specs.declared.Refusal.{Refusal}
+use Rattle.base.specs.declared.Refusal.TheVariants.{Short, Field}
 
 -- ---- runs of elements
 -- two neighbouring runs are one
@@ -55,23 +56,23 @@ bytes_good s at w h = all_good_lem octet_good (drop at s) w (λ i l. rw get_or-d
 
 -- a run that is not too wide: what runs out is 1, and then an element that breaks its rule 4
 module _ (b : ℕ) (v : ℕ → ℕ) (ok : ℕ → Bool) (widest : ℕ) (s : List ℕ) (at w : ℕ) (narrow : leb w widest ≡ true) where
-  pub run_climbs : says_counted (count_of b v ok widest s at w) ≡ climb (rung 1 (leb (at + w) (length s)) ∷ rung 4 (all_good ok (drop at s) w) ∷ []) (number b v (drop at s) w)
+  pub run_climbs : said (count_of b v ok widest s at w) ≡ climb (rung 1 (leb (at + w) (length s)) ∷ rung 4 (all_good ok (drop at s) w) ∷ []) (number b v (drop at s) w)
   unfolding count_of
   run_climbs =
-      ap (λ (t : Bool). says_counted (cond (t && leb (at + w) (length s)) (cond (all_good ok (drop at s) w) (Done (number b v (drop at s) w)) Bad) Out)) narrow
+      ap (λ (t : Bool). said (cond (t && leb (at + w) (length s)) (cond (all_good ok (drop at s) w) (Ok (number b v (drop at s) w)) (Err Field)) (Err Short))) narrow
       ∙ go (leb (at + w) (length s)) (all_good ok (drop at s) w)
     where
-      go : (t g : Bool) → says_counted (cond t (cond g (Done (number b v (drop at s) w)) Bad) Out) ≡ need t 1 (need g 4 (done (number b v (drop at s) w)))
+      go : (t g : Bool) → said (cond t (cond g (Ok (number b v (drop at s) w)) (Err Field)) (Err Short)) ≡ need t 1 (need g 4 (done (number b v (drop at s) w)))
       go true true = refl
       go true false = refl
       go false g = refl
 
   -- one that is there
-  pub run_there : leb (at + w) (length s) ≡ true → says_counted (count_of b v ok widest s at w) ≡ need (all_good ok (drop at s) w) 4 (done (number b v (drop at s) w))
+  pub run_there : leb (at + w) (length s) ≡ true → said (count_of b v ok widest s at w) ≡ need (all_good ok (drop at s) w) 4 (done (number b v (drop at s) w))
   run_there h = run_climbs ∙ need_yes 1 _ h
 
   -- and what comes after it
-  pub run_then : {B : Type 0} (k : ℕ → Outcome B) → leb (at + w) (length s) ≡ true → and_then (says_counted (count_of b v ok widest s at w)) k ≡ need (all_good ok (drop at s) w) 4 (k (number b v (drop at s) w))
+  pub run_then : {B : Type 0} (k : ℕ → Outcome B) → leb (at + w) (length s) ≡ true → and_then (said (count_of b v ok widest s at w)) k ≡ need (all_good ok (drop at s) w) 4 (k (number b v (drop at s) w))
   run_then k h =
       ap (λ (y : Outcome ℕ). and_then y k) (run_there h) ∙ then_need (all_good ok (drop at s) w) 4 (number b v (drop at s) w) k
 
@@ -91,15 +92,15 @@ cuc_climbs s at l h =
     let g1 = all_good octet_good (drop at s) l.coarse in
     let g2 = all_good octet_good (drop (at + l.coarse) s) l.fine in
     run_then 256 octet_value octet_good 8 s at l.coarse (le-leb l.coarse 8 (omega (arith, g.narrow)))
-    (λ c. given (U.time_of l c) (says_counted (count_at s (at + l.coarse) l.fine))) (le-leb (at + l.coarse) (length s) (omega arith))
+    (λ c. given (U.time_of l c) (said (count_at s (at + l.coarse) l.fine))) (le-leb (at + l.coarse) (length s) (omega arith))
     ∙ ap (λ (y : Outcome ℕ). need g1 4 (given (U.time_of l (count_in s at l.coarse)) y))
     (run_there 256 octet_value octet_good 8 s (at + l.coarse) l.fine (le-leb l.fine 8 (omega (arith, g.short))) (le-leb (at + l.coarse + l.fine) (length s) (omega arith)))
     ∙ ap (need g1 4) (given_need (U.time_of l (count_in s at l.coarse)) g2 4 (done (count_in s (at + l.coarse) l.fine)))
     ∙ need_both g1 g2 4 (done (cuc_named s at l))
     ∙ ap (λ (b : Bool). need b 4 (done (cuc_named s at l))) (sym (good_from_lem octet_good s at l.coarse l.fine)))
   where
-    counts : Counted → Outcome Time
-    counts c = and_then (says_counted c) (λ c. given (U.time_of l c) (says_counted (count_at s (at + l.coarse) l.fine)))
+    counts : Result ℕ Refusal → Outcome Time
+    counts c = and_then (said c) (λ c. given (U.time_of l c) (said (count_at s (at + l.coarse) l.fine)))
 
 cuc_rungs : (t : Table) (s : List ℕ) (at : ℕ) (l : CucLayout) → U.is_layout l ≡ true → verdict (U.field s at l) ≡ judged (field_rungs t s at (Cuc l))
 cuc_rungs t s at l h =
@@ -144,7 +145,7 @@ module _ (s : List ℕ) (at : ℕ) (l : CdsLayout) (h : D.is_layout l ≡ true) 
   cds_named = moment (l.epoch +ℤ pos (count_in s at l.day)) (milli_in s at l / 1000) (D.fraction l.part (milli_in s at l) (part_in s at l))
 
   abbrev cds_counts : Outcome Moment
-  cds_counts = and_then (says_counted (count_at s at l.day)) (λ d. and_then (says_counted (count_at s (at + l.day) 4)) (λ m. and_then (says_counted (count_at s (at + l.day + 4) l.part)) (λ p. D.moment_by l d m p)))
+  cds_counts = and_then (said (count_at s at l.day)) (λ d. and_then (said (count_at s (at + l.day) 4)) (λ m. and_then (said (count_at s (at + l.day + 4) l.part)) (λ p. D.moment_by l d m p)))
 
   cds_moment : leb (at + (l.day + 4 + l.part)) (length s) ≡ true → cds_counts ≡ need (field_good s at (Cds l)) 4 (done cds_named)
   unfolding D.moment_by
@@ -155,10 +156,10 @@ module _ (s : List ℕ) (at : ℕ) (l : CdsLayout) (h : D.is_layout l ≡ true) 
       let g2 = all_good octet_good (drop (at + l.day) s) 4 in
       let g3 = all_good octet_good (drop (at + l.day + 4) s) l.part in
       run_then 256 octet_value octet_good 8 s at l.day (le-leb l.day 8 (omega (arith, g.day)))
-      (λ d. and_then (says_counted (count_at s (at + l.day) 4)) (λ m. and_then (says_counted (count_at s (at + l.day + 4) l.part)) (λ p. D.moment_by l d m p)))
+      (λ d. and_then (said (count_at s (at + l.day) 4)) (λ m. and_then (said (count_at s (at + l.day + 4) l.part)) (λ p. D.moment_by l d m p)))
       (le-leb (at + l.day) (length s) (omega arith))
       ∙ ap (need g1 4) (run_then 256 octet_value octet_good 8 s (at + l.day) 4 refl
-      (λ m. and_then (says_counted (count_at s (at + l.day + 4) l.part)) (λ p. D.moment_by l (count_in s at l.day) m p))
+      (λ m. and_then (said (count_at s (at + l.day + 4) l.part)) (λ p. D.moment_by l (count_in s at l.day) m p))
       (le-leb (at + l.day + 4) (length s) (omega arith)))
       ∙ ap (λ (y : Outcome Moment). need g1 4 (need g2 4 y)) (run_then 256 octet_value octet_good 8 s (at + l.day + 4) l.part (le-leb l.part 8 (omega (arith, g.part)))
       (λ p. D.moment_by l (count_in s at l.day) (milli_in s at l) p)

@@ -115,7 +115,7 @@ yields : (setting : Setting) (code : List ℕ) → Witness setting code → Hold
 yields setting code w = ((writes_exactly builtin builtin_reckons setting source room w.ready).0 (code, w.written_as), written_latest builtin builtin_reckons setting source room code w.written_as)
 
 -- ---- one scale: a later row of the table, and the two seconds
-later_row : Among (row_of (5295 ∷ 11 ∷ [])) builtin.later
+later_row : Among (row_of (record { day = 5295; offset = 11 })) builtin.later
 unfolding builtin
 later_row = here
 

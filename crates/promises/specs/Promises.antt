@@ -31,12 +31,13 @@ use Rattle.codes.specs.declared.setting.Setting.TheVariants.{Binary, Ascii}
 use Rattle.receiver.specs.Receiver.{made_of, Fate, feed_of}
 use Rattle.receiver.specs.declared.Receiver.{Receiver}
 use Rattle.window.specs.Among.{Among, Ascending}
-use Rattle.window.specs.Window.{Listed, Named}
+use Rattle.window.specs.Window.{Named}
 use Rattle.tag.specs.Shortening as A
 use Rattle.listing.specs.Records.{Inside, Sooner}
 use Rattle.listing.specs.CucTag as C
 use Rattle.listing.specs.AsciiTag as T
 use Rattle.promises.specs.Octet.{octet_in, coarse}
+use Rattle.window.specs.declared.Listed.{Listed}
 
 -- ---- "Every entry point takes any bytes, any record, any settings and any room"
 -- the calls of the C interface: all that a caller hands over

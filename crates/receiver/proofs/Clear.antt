@@ -1,27 +1,13 @@
--- Zeros looked at one by one.
-use mathlib.Core.Path.{◌≡◌, refl, sym, ap, ◌∙◌}
-use mathlib.Core.Bool.{true, false, ◌&&◌}
+-- Zeros, all of them.
+use mathlib.Core.Path.{◌≡◌, refl, ap}
+use mathlib.Core.Bool.{true}
 use mathlib.Core.List.{List, [], ◌∷◌}
-use Prim.Native.Nat.{ℕ, zero, suc, ◌+◌, ◌<◌, ◌≤◌}
-use native.Mathlib.Numerals.{add-one}
+use Prim.Native.Nat.{ℕ, zero, suc}
 use lib.Dec.{eqb}
-use lib.ListN.{length, get_or, drop, replicate, drop_of_length-le}
-use lib.Seq.{drop-cons}
-use borrow.Author.Tests.{eq-eqb, ne_eqb, eqb-true}
-use Rattle.base.proofs.Bools.{and_yes, and_no, and_true}
+use lib.ListN.{length, replicate}
+use borrow.Author.Tests.{eqb-true}
+use Rattle.base.proofs.Bools.{and_true}
 use Rattle.receiver.specs.Receiver.{all_zero}
-
-here : (s : List ℕ) (i : ℕ) → i < length s → all_zero (drop i s) ≡ eqb (get_or s i 0) 0 && all_zero (drop (i + 1) s)
-here s i h = rw add-one (ap all_zero (drop-cons s i 0 h))
-
-pub zero_here : (s : List ℕ) (i : ℕ) → i < length s → get_or s i 0 ≡ 0 → all_zero (drop (i + 1) s) ≡ all_zero (drop i s)
-zero_here s i h e = sym (here s i h ∙ and_yes _ (eq-eqb (get_or s i 0) 0 e))
-
-pub other_here : (s : List ℕ) (i : ℕ) → i < length s → (get_or s i 0 ≡ 0 → ⊥) → all_zero (drop i s) ≡ false
-other_here s i h n = here s i h ∙ and_no _ (ne_eqb (get_or s i 0) 0 n)
-
-pub none_left : (s : List ℕ) (i : ℕ) → length s ≤ i → all_zero (drop i s) ≡ true
-none_left s i h = ap all_zero (drop_of_length-le s h)
 
 -- zeros are so many zeros
 pub zeros_are : (s : List ℕ) → all_zero s ≡ true → s ≡ replicate (length s) 0

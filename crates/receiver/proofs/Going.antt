@@ -13,30 +13,26 @@ use Rattle.pfield.specs.declared.Layout.{Layout}
 use Rattle.codes.specs.Reading.{field_of, width_of}
 use Rattle.receiver.specs.Fields.{fields_in}
 use Rattle.receiver.specs.Answers.{row_of, rows_over}
-use Rattle.receiver.proofs.Rows.{row_more, length_over}
+use Rattle.receiver.proofs.Rows.{row_more}
 use Rattle.receiver.proofs.Runs.{field_at, length_fields, fields_more}
 
--- the first i of the n T-fields from `at` on are read, and end at `end`
-pub record Going (piece : List ℕ) (at : ℕ) (l : Layout) (old : List (List ℤ)) (n : ℕ) (new : List (List ℤ)) (end i : ℕ) : Type 0 where
-  pub within : at + n * width_of l ≤ length piece
-  pub room : n ≤ length old
-  pub part : i ≤ n
+-- the first i of the T-fields from `at` on, one for each row, are read, and end at `end`
+pub record Going (piece : List ℕ) (at : ℕ) (l : Layout) (old new : List (List ℤ)) (end i : ℕ) : Type 0 where
+  pub within : at + length old * width_of l ≤ length piece
+  pub part : i ≤ length old
   pub place : end ≡ at + i * width_of l
   pub is : new ≡ rows_over (fields_in builtin l i (drop at piece)) old
 
-pub begins : (piece : List ℕ) (at : ℕ) (l : Layout) (old : List (List ℤ)) (n : ℕ) → at + n * width_of l ≤ length piece → n ≤ length old → Going piece at l old n old at 0
+pub begins : (piece : List ℕ) (at : ℕ) (l : Layout) (old : List (List ℤ)) → at + length old * width_of l ≤ length piece → Going piece at l old old at 0
 unfolding fields_in
-begins piece at l old n h k = record { within = h; room = k; part = omega arith; place = rw (zero-mul, add-zero); is = refl }
+begins piece at l old h = record { within = h; part = omega arith; place = rw (zero-mul, add-zero); is = refl }
 
-module _ {piece : List ℕ} {at : ℕ} {l : Layout} {old : List (List ℤ)} {n : ℕ} {new : List (List ℤ)} {end i : ℕ} (g : Going piece at l old n new end i) where
-  pub same_rows : length new ≡ length old
-  same_rows = ap length g.is ∙ length_over (fields_in builtin l i (drop at piece)) old (omega (arith, length_fields builtin l i (drop at piece), g.part, g.room))
-
+module _ {piece : List ℕ} {at : ℕ} {l : Layout} {old new : List (List ℤ)} {end i : ℕ} (g : Going piece at l old new end i) where
   -- the next one stands in the piece
-  pub next_within : i < n → end + width_of l ≤ length piece
-  next_within h = omega (arith, g.place, g.within, suc-mul i (width_of l), mul-le-mul_right {m = suc i} {n = n} (width_of l) h)
+  next_within : i < length old → end + width_of l ≤ length piece
+  next_within h = omega (arith, g.place, g.within, suc-mul i (width_of l), mul-le-mul_right {m = suc i} {n = length old} (width_of l) h)
 
-  pub goes_on : i < n → Going piece at l old n (set new i (row_of (field_of builtin piece end l))) (end + width_of l) (i + 1)
+  pub goes_on : i < length old → Going piece at l old (set new i (row_of (field_of builtin piece end l))) (end + width_of l) (i + 1)
   goes_on h =
       let s = drop at piece in
       let fs = fields_in builtin l i s in
@@ -45,15 +41,14 @@ module _ {piece : List ℕ} {at : ℕ} {l : Layout} {old : List (List ℤ)} {n :
       field_at builtin l piece end (next_within h) ∙ ap (λ (x : List ℕ). field_of builtin x 0 l) (ap (λ (x : ℕ). drop x piece) g.place ∙ sym (drop-drop (i * width_of l) at piece)) in
       record {
         within = g.within;
-        room = g.room;
         part = omega arith;
         place = omega (arith, g.place, suc-mul i (width_of l), ap (λ (x : ℕ). x * width_of l) (add-one i));
         is =
-            rw (e, g.is) (ap (λ (x : ℕ). set (rows_over fs old) x (row_of (field_of builtin (drop (i * width_of l) s) 0 l))) (sym k) ∙ row_more fs _ old (omega (arith, k, g.room)))
+            rw (e, g.is) (ap (λ (x : ℕ). set (rows_over fs old) x (row_of (field_of builtin (drop (i * width_of l) s) 0 l))) (sym k) ∙ row_more fs _ old (omega (arith, k)))
             ∙ ap (λ (x : List _). rows_over x old) (sym (fields_more builtin l i s));
       }
 
-  pub went : n ≤ i → (end ≡ at + n * width_of l) × (new ≡ rows_over (fields_in builtin l n (drop at piece)) old)
+  pub went : length old ≤ i → (end ≡ at + length old * width_of l) × (new ≡ rows_over (fields_in builtin l (length old) (drop at piece)) old)
   went h =
-      let e : i ≡ n = omega (arith, g.part) in
+      let e : i ≡ length old = omega (arith, g.part) in
       (rw (← e) g.place, rw (← e) g.is)

@@ -9,7 +9,7 @@ use lib.ListN.{length, get_or, take, set, replicate, length-append, length-set, 
 use lib.Seq.{take_all, take-take, take-suc, take-suc-set, take-append-le, length-take-le, get_or-take, get_or-append-add, ext_get_or}
 use Rattle.receiver.specs.Inner.{padded}
 
-abbrev zeros : ℕ → List ℕ
+abbrev pub zeros : ℕ → List ℕ
 zeros n = replicate n 0
 
 zero_at : (n i : ℕ) → get_or (zeros n) i 0 ≡ 0
@@ -49,12 +49,6 @@ module _ (n : ℕ) (s : List ℕ) where
       ext_get_or 0 (padded n s) (s ++ replicate (n - length s) 0) (length_padded ∙ sym (length-append s (replicate (n - length s) 0) ∙ ap (λ (k : ℕ). length s + k) (length-replicate (n - length s) 0) ∙ omega arith))
       (λ i k. padded_at i (omega (arith, length_padded)) ∙ sym (behind s (n - length s) i))
 
--- fewer of them
-pub padded_fewer : (m n : ℕ) (s : List ℕ) → m ≤ n → padded m (padded n s) ≡ padded m s
-padded_fewer m n s h =
-    ext_get_or 0 (padded m (padded n s)) (padded m s) (length_padded m (padded n s) ∙ sym (length_padded m s))
-    (λ i k. let j : i < m = omega (arith, length_padded m (padded n s)) in padded_at m (padded n s) i j ∙ padded_at n s i (omega arith) ∙ sym (padded_at m s i j))
-
 -- ---- they are stored one by one
 pub record Padding (n : ℕ) (s new : List ℕ) (i : ℕ) : Type 0 where
   pub size : length new ≡ n
@@ -79,18 +73,10 @@ module _ {n : ℕ} {s new : List ℕ} {i : ℕ} (p : Padding n s new i) where
       sym (take_all i new (omega (arith, p.size))) ∙ p.is ∙ take_all i (padded n s) (omega (arith, length_padded n s))
 
 -- ---- the octet of a run at a place: held, or in the piece
-module _ (bytes piece : List ℕ) (count i : ℕ) (h : count ≤ length bytes) where
-  counted : length (take count bytes) ≡ count
-  counted = length-take-le count bytes h
+pub held_at : (held piece : List ℕ) (i : ℕ) → i < length held → get_or (held ++ piece) i 0 ≡ get_or held i 0
+held_at held piece i h = get_or-append held piece 0 i h
 
-  pub held_at : i < count → get_or (take count bytes ++ piece) i 0 ≡ get_or bytes i 0
-  held_at k = get_or-append (take count bytes) piece 0 i (omega (arith, counted)) ∙ get_or-take count bytes i 0 k
-
-  pub fed_at : count ≤ i → get_or (take count bytes ++ piece) i 0 ≡ get_or piece (i - count) 0
-  fed_at k =
-      let e : i ≡ length (take count bytes) + (i - count) = omega (arith, counted) in
-      ap (λ (j : ℕ). get_or (take count bytes ++ piece) j 0) e ∙ get_or-append-add (take count bytes) piece (i - count) 0
-
-  -- past its end there is none
-  pub past_at : count ≤ i → length piece ≤ i - count → get_or (take count bytes ++ piece) i 0 ≡ 0
-  past_at k l = fed_at k ∙ get_or-eq_default piece 0 l
+pub fed_at : (held piece : List ℕ) (i : ℕ) → length held ≤ i → get_or (held ++ piece) i 0 ≡ get_or piece (i - length held) 0
+fed_at held piece i h =
+    let e : i ≡ length held + (i - length held) = omega arith in
+    ap (λ (j : ℕ). get_or (held ++ piece) j 0) e ∙ get_or-append-add held piece (i - length held) 0

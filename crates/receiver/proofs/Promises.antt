@@ -13,7 +13,7 @@ use Rattle.base.specs.Outcome.{Outcome, done, refused, need, and_then, given}
 use Rattle.base.proofs.Ladders.{given_done, done_is, never, need_done}
 use Rattle.scale.specs.Time.{Time}
 use Rattle.leap.specs.Table.{Table}
-use Rattle.pfield.specs.PField.{laid, Headed}
+use Rattle.pfield.specs.PField.{laid}
 use Rattle.pfield.specs.declared.PField.{PField}
 use Rattle.pfield.specs.declared.Codes.TheVariants.{All}
 use Rattle.pfield.specs.declared.Layout.{Layout}
@@ -30,6 +30,7 @@ use Rattle.receiver.proofs.States.{good, state_is, held_is, holding_size, holdin
 use Rattle.receiver.proofs.Calls.{no_room, with_room, counted}
 use Rattle.receiver.proofs.Runs.{field_number}
 use Rattle.receiver.proofs.Cuts.{parted, cut_answers, cut_left}
+use Rattle.pfield.specs.declared.Head.{Head}
 
 -- a receiver that takes T-fields of a layout
 pub record Takes (l : Layout) (r : Receiver) : Type 0 where
@@ -156,5 +157,5 @@ pub as_read : (t : Table) (p : PField) (e : ℤ) (l : Layout) → laid All p e �
     → scan_of t (drop (i * width_of l) s) (Given p) e ≡ given (scanned (width_of l)) (get_or (answers_in t l s) i (refused 0))
 unfolding answers_in scan_of scan_in
 as_read t p e l a s i h =
-    ap (λ (x : Outcome Headed). and_then x (λ y. scan_in t (drop (i * width_of l) s) y.start y.layout)) (head_given All e (drop (i * width_of l) s) p l a)
+    ap (λ (x : Outcome Head). and_then x (λ y. scan_in t (drop (i * width_of l) s) y.start y.layout)) (head_given All e (drop (i * width_of l) s) p l a)
     ∙ rw zero-add (ap (given (scanned (width_of l))) (sym (field_number t l (whole_in l s) s i h)))

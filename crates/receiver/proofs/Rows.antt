@@ -1,14 +1,15 @@
 -- Answers in their rows: one read, and one after another.
 use mathlib.Core.Path.{◌≡◌, refl, ap, ◌∙◌}
 use mathlib.Core.List.{List, [], ◌∷◌, ◌++◌, map, append_assoc, append-nil}
-use Prim.Native.Nat.{ℕ, suc, ◌+◌, ◌-◌, ◌^◌, ◌<◌, ◌≤◌}
+use Prim.Native.Nat.{ℕ, suc, ◌+◌, ◌^◌, ◌<◌}
 use native.Mathlib.Nat.{lt_of_lt_of_le}
 use native.Mathlib.Numerals.{add-one, one-add}
 use native.Mathlib.Omega.{arith}
 use lib.Dec.{lit≤}
 use lib.IntN.{ℤ}
-use lib.ListN.{length, take, drop, set, length-append, length-drop, drop_of_length-le}
-use lib.Seq.{take_all, drop-cons, drop-drop, set_at}
+use lib.ListN.{length, take, drop, set, length-append, length-take, drop_of_length-le}
+use lib.Seq.{drop-cons, drop-drop, set_at}
+use borrow.Rule.Slice.PartMut.{put_mid}
 use Rattle.base.specs.Outcome.{Outcome, done}
 use Rattle.scale.specs.Time.{Time}
 use Rattle.scale.proofs.Laws.{record_ticks}
@@ -39,18 +40,17 @@ row_more xs x old h =
     ∙ set_at (map row_of xs) _ _ (row_of x) (length xs) (length_rows_lem xs)
     ∙ rw (n, map_append xs (x ∷ []), append_assoc (map row_of xs) (row_of x ∷ []) (drop (length xs + 1) old), add-one (length xs))
 
-pub length_over : (xs : List (Outcome Time)) (old : List (List ℤ)) → length xs ≤ length old → length (rows_over xs old) ≡ length old
-length_over xs old h = length-append (map row_of xs) (drop (length xs) old) ∙ rw (length_rows_lem xs, length-drop (length xs) old) (omega arith)
+-- the front rows, filled where they are lent
+pub rows_front : (xs : List (Outcome Time)) (n : ℕ) (old : List (List ℤ)) → length xs ≡ n → rows_over xs (take n old) ++ drop n old ≡ rows_over xs old
+rows_front xs n old h =
+    let d : drop (length xs) (take n old) ≡ [] = drop_of_length-le (take n old) {i = length xs} (omega (arith, length-take n old)) in
+    rw (d, append-nil, h)
 
 -- the first, and those behind it
 pub row_first : (x : Outcome Time) (xs : List (Outcome Time)) (old : List (List ℤ)) → row_of x ∷ rows_over xs (drop 1 old) ≡ rows_over (x ∷ xs) old
 row_first x xs old = ap (λ (y : List (List ℤ)). row_of x ∷ map row_of xs ++ y) (drop-drop (length xs) 1 old ∙ ap (λ (k : ℕ). drop k old) (one-add (length xs)))
 
--- a first row that is set, and the others lent and given back
-pub others_lent : (row : List ℤ) (old : List (List ℤ)) → 0 < length old → take (length (set old 0 row) - 1) (drop 1 (set old 0 row)) ≡ drop 1 old
-others_lent row [] h = absurd (omega arith)
-others_lent row (y ∷ old) h = take_all (suc (length old) - 1) old (omega arith)
-
-pub others_back : (row : List ℤ) (old new : List (List ℤ)) → 0 < length old → take 1 (set old 0 row) ++ (new ++ drop (length (set old 0 row) - 1) (drop 1 (set old 0 row))) ≡ row ∷ new
-others_back row [] new h = absurd (omega arith)
-others_back row (y ∷ old) new h = ap (λ (x : List (List ℤ)). row ∷ new ++ x) (drop_of_length-le old {i = suc (length old) - 1} (omega arith)) ∙ ap (λ (x : List (List ℤ)). row ∷ x) (append-nil new)
+-- a first row that is set, and those behind it filled where they are lent
+pub others : (row : List ℤ) (old new : List (List ℤ)) (xs : List (Outcome Time)) (n : ℕ) → 0 < length old → new ≡ rows_over xs (take n (drop 1 (set old 0 row))) → length xs ≡ n → put_mid 1 n (set old 0 row) new ≡ row ∷ rows_over xs (drop 1 old)
+others row [] new xs n h e k = absurd (omega arith)
+others row (y ∷ old) new xs n h e k = ap (λ (x : List (List ℤ)). row ∷ x) (ap (λ (x : List (List ℤ)). x ++ drop n old) e ∙ rows_front xs n old k)

@@ -1,6 +1,6 @@
 -- What a receiver's state is judged as, and what a good one holds.
 use mathlib.Core.Path.{◌≡◌, refl, sym, ap, ◌∙◌}
-use mathlib.Core.Bool.{Bool, true, false}
+use mathlib.Core.Bool.{true}
 use mathlib.Core.List.{List, ◌++◌}
 use Prim.Native.Nat.{ℕ, ◌+◌, ◌-◌, ◌<◌, ◌≤◌}
 use native.Mathlib.Omega.{arith}
@@ -8,9 +8,9 @@ use lib.Dec.{ltb}
 use lib.IntN.{ℤ}
 use lib.ListN.{length, drop, replicate, length-drop, length-append, length-replicate, take-append-drop}
 use lib.Seq.{take_at, drop_at, length-take-le}
-use borrow.Author.Tests.{lt-ltb, le-ltb, ltb-true}
-use Rattle.base.specs.Outcome.{done, refused, need}
-use Rattle.base.proofs.Bools.{and_yes, and_no, and_true}
+use borrow.Author.Tests.{lt-ltb, ltb-true}
+use Rattle.base.specs.Outcome.{done, need}
+use Rattle.base.proofs.Bools.{and_true}
 use Rattle.base.proofs.Ladders.{need_done, then_done, done_is}
 use Rattle.pfield.specs.PField.{laid}
 use Rattle.pfield.specs.declared.PField.{PField}
@@ -22,27 +22,9 @@ use Rattle.receiver.specs.declared.Receiver.{Receiver}
 use Rattle.receiver.proofs.Clear.{zeros_are, zeros_all}
 
 module _ (r : Receiver) where
-  -- ---- how it is judged
-  pub unlaid : (n : ℕ) → laid All r.p r.epoch ≡ refused n → layout_of r ≡ refused n
-  unfolding layout_of
-  unlaid n h = rw h
-
-  module _ (l : Layout) (h : laid All r.p r.epoch ≡ done l) where
-    judged : (b : Bool) → is_state l r ≡ b → layout_of r ≡ need b 7 (done l)
-    unfolding layout_of
-    judged b e = rw (h, e)
-
-    pub too_many : width_of l ≤ r.count → layout_of r ≡ refused 7
-    unfolding is_state
-    too_many k = judged false (and_no _ (le-ltb r.count (width_of l) k))
-
-    pub not_clear : r.count < width_of l → all_zero (drop r.count r.pending) ≡ false → layout_of r ≡ refused 7
-    unfolding is_state
-    not_clear k e = judged false (and_yes _ (lt-ltb r.count (width_of l) k) ∙ e)
-
-    pub state : r.count < width_of l → all_zero (drop r.count r.pending) ≡ true → layout_of r ≡ done l
-    unfolding is_state
-    state k e = judged true (and_yes _ (lt-ltb r.count (width_of l) k) ∙ e)
+  pub state : (l : Layout) → laid All r.p r.epoch ≡ done l → r.count < width_of l → all_zero (drop r.count r.pending) ≡ true → layout_of r ≡ done l
+  unfolding layout_of is_state
+  state l h k e = rw (h, lt-ltb r.count (width_of l) k, e)
 
   -- ---- what a good one is
   pub record Good (l : Layout) : Type 0 where
@@ -58,6 +40,9 @@ module _ (r : Receiver) where
       let (k, z) = and_true (ltb r.count (width_of m)) _ s in
       let e : m ≡ l = done_is m l d in
       record { lays = a ∙ ap done e; few = rw e at (ltb-true r.count (width_of m) k); clear = z }
+
+  pub few : (l : Layout) → layout_of r ≡ done l → r.count < width_of l
+  few l h = (good l h).few
 
   -- its octets, and zeros behind them, are all that there is to it
   pub state_is : (l : Layout) → length r.pending ≡ 12 → layout_of r ≡ done l → width_of l ≤ 13 → r ≡ holding r.p r.epoch (held_in r)

@@ -1,5 +1,6 @@
 -- A receiver (document 02, request 2: "A receiver with one fixed P-field and epoch takes T-fields in parts, some of no bytes. The receiver is a small state handed back by each call, holding the bytes of an unfinished code").
-use Rattle.std.specs.Prelude.{Bool, true, ◌&&◌, List, [], ◌∷◌, ◌++◌, ℕ, ◌-◌, eqb, ltb, leb, ℤ, length, take, drop, replicate}
+use Rattle.std.specs.Prelude.{Bool, ◌&&◌, List, [], ◌++◌, ℕ, ◌-◌, eqb, ltb, leb, ℤ, length, take, drop, replicate}
+use Rattle.std.specs.List.{list_all}
 use Rattle.base.specs.Outcome.{Outcome, done, refused, need, and_then, given}
 use Rattle.scale.specs.Time.{Time}
 use Rattle.leap.specs.Table.{Table}
@@ -21,8 +22,7 @@ abbrev pub held_in : Receiver → List ℕ
 held_in r = take r.count r.pending
 
 abbrev pub all_zero : List ℕ → Bool
-all_zero [] = true
-all_zero (x ∷ s) = eqb x 0 && all_zero s
+all_zero s = list_all (λ x. eqb x 0) s
 
 -- a state that a call can have made: fewer octets than the T-field has, and zeros behind them
 unfoldable pub is_state : Layout → Receiver → Bool

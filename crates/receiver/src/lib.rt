@@ -1,21 +1,21 @@
 // A receiver of T-fields under one P-field and epoch, fed by pieces that are cut anywhere.
 #![tactic(auto)]
 
-ghost use Rattle.std.specs.Prelude.{◌≡◌, [], ◌++◌, ◌+◌, ◌*◌, ◌/◌, ◌≤◌, ◌<◌, length, take, drop, get_or};
+ghost use Rattle.std.specs.Prelude.{◌≡◌, [], ◌++◌, ◌+◌, ◌*◌, ◌≤◌, length, drop, get_or};
 ghost use Rattle.leap.specs.Builtin.{builtin};
-ghost use Rattle.pfield.specs.Answers.{says_layout};
 ghost use Rattle.codes.specs.Reading.{field_of, width_of};
 ghost use Rattle.receiver.specs.Fields.{fields_in};
-ghost use Rattle.receiver.specs.Receiver.{holding, all_zero, made_of, layout_of, feed_of};
+ghost use Rattle.receiver.specs.Receiver.{holding, held_in, all_zero, made_of, layout_of, feed_of};
 ghost use Rattle.receiver.specs.Answers.{row_of, rows_over, Feeds, Makes};
-ghost use Rattle.receiver.specs.Inner.{padded, held_by, Passes, Passed};
+ghost use Rattle.receiver.specs.Inner.{padded, Passes, Passed};
+ghost use Rattle.base.specs.Said.{said};
 
 use base::Refusal;
-use pfield::{Codes, Layout, LayoutAnswer, PField};
-use scale::RecordAnswer;
+use pfield::{Codes, Layout, PField};
 
 // The first count octets of pending are those of an unfinished T-field, and the others are 0. The longest T-field has one
-// octet more than there is room for.
+// octet more than there is room for. The octets and their count stay apart: the library uses no heap, and the C interface
+// lays out both.
 #[derive(Clone, Copy)]
 pub struct Receiver {
     pub p: PField,
@@ -24,227 +24,153 @@ pub struct Receiver {
     pub count: usize,
 }
 
-// How many T-fields were answered.
+// What a making answers, and the receiver: it is there whether or not its making is refused.
 #[derive(Clone, Copy)]
-pub enum FeedAnswer {
-    Done(usize),
-    Refused(Refusal),
+pub struct Made {
+    pub answer: Result<(), Refusal>,
+    pub receiver: Receiver,
 }
 
-// A call's answer, and the receiver for the next call.
+// A call's answer, how many T-fields were answered, and the receiver for the next call.
 #[derive(Clone, Copy)]
 pub struct Fed {
-    pub answer: FeedAnswer,
+    pub answer: Result<usize, Refusal>,
     pub next: Receiver,
-}
-
-// What a receiver holds of an unfinished T-field.
-#[derive(Clone, Copy)]
-struct Held {
-    bytes: [u8; 12],
-    count: usize,
 }
 
 impl Receiver {
     // A receiver that holds nothing yet. One whose making is refused refuses every piece likewise.
-    pub fn new(p: PField, epoch: i64) -> Fed
+    pub fn new(p: PField, epoch: i64) -> Made
         ensures { Makes (made_of p epoch) (holding p epoch []) result }
     {
-        let next = Receiver {
-            p: p,
-            epoch: epoch,
-            pending: [0u8; 12],
+        let answer = pfield::lay(p, Codes::All, epoch).map(|_| ());
+        let receiver = Receiver {
+            p,
+            epoch,
+            pending: [0; 12],
             count: 0,
         };
-        match pfield::lay(p, Codes::All, epoch) {
-            LayoutAnswer::Refused(why) => Fed {
-                answer: FeedAnswer::Refused(why),
-                next: next,
-            },
-            LayoutAnswer::Done(_) => Fed {
-                answer: FeedAnswer::Done(0),
-                next: next,
-            },
-        }
+        Made { answer, receiver }
     }
 
-    // A piece of the run: each T-field that it completes is answered by a row.
+    // A piece of the run: each T-field that it completes is answered by a row. How many these are is told, and the receiver for
+    // the next call handed back, as docs/FORMS.md has it; what is refused leaves the receiver and the rows.
     pub fn feed(mut self, piece: &[u8], rows: &mut [[i64; 3]]) -> Fed
-        ensures { Feeds (feed_of builtin self piece.now (length rows.old)) self rows.old rows.new result }
+        ensures { Feeds (feed_of builtin self piece.now (length rows.old)) self result.next rows.old rows.new result.answer }
     {
-        match self.layout() {
-            LayoutAnswer::Refused(why) => Fed {
-                answer: FeedAnswer::Refused(why),
-                next: self,
-            },
-            LayoutAnswer::Done(l) => {
-                let count = self.count;
-                let bytes = self.pending;
-                let n = completes(codes::size(l), count, piece.len());
-                if rows.len() < n {
-                    return Fed {
-                        answer: FeedAnswer::Refused(Refusal::Room),
-                        next: self,
-                    };
-                }
-                let left = pass(l, n, Held { bytes, count }, piece, rows);
-                let longer = left.bytes;
-                self.pending = longer;
-                self.count = left.count;
-                Fed {
-                    answer: FeedAnswer::Done(n),
-                    next: self,
-                }
-            }
+        let answer = self.accept(piece, rows);
+        Fed { answer, next: self }
+    }
+
+    // The same in place.
+    #[tactic(auto, using(crate::proofs::States::few, crate::proofs::Calls::completed), unfolding(crate::specs::Receiver::feed_of))]
+    fn accept(&mut self, piece: &[u8], rows: &mut [[i64; 3]]) -> Result<usize, Refusal>
+        ensures { Feeds (feed_of builtin self.old piece.now (length rows.old)) self.old self.new rows.old rows.new result }
+    {
+        let l = self.layout()?;
+        let n = (self.count + piece.len()) / codes::size(l);
+        if rows.len() < n {
+            return Err(Refusal::Room);
         }
+        self.pass(l, n, piece, rows);
+        Ok(n)
     }
 
     // The layout of the T-fields that it takes. A state that no call can have made is out of range.
-    fn layout(self) -> LayoutAnswer
-        ensures { says_layout result ≡ layout_of self }
+    #[tactic(auto, unfolding(crate::specs::Receiver::layout_of, crate::specs::Receiver::is_state))]
+    fn layout(&self) -> Result<Layout, Refusal>
+        ensures { said result ≡ layout_of self.now }
     {
-        let p = self.p;
-        let pending = self.pending;
-        match pfield::lay(p, Codes::All, self.epoch) {
-            LayoutAnswer::Refused(why) => LayoutAnswer::Refused(why),
-            LayoutAnswer::Done(l) => {
-                if codes::size(l) <= self.count {
-                    return LayoutAnswer::Refused(Refusal::Range);
-                }
-                if !zeros(pending, self.count) {
-                    return LayoutAnswer::Refused(Refusal::Range);
-                }
-                LayoutAnswer::Done(l)
-            }
+        let l = pfield::lay(self.p, Codes::All, self.epoch)?;
+        if codes::size(l) <= self.count || !self.clear() {
+            return Err(Refusal::Range);
         }
+        Ok(l)
     }
-}
 
-// Whether only zeros stand from a place on.
-fn zeros(pending: [u8; 12], from: usize) -> bool
-    ensures { result ≡ all_zero (drop from pending) }
-{
-    let mut i = from;
-    while i < 12 {
-        if pending[i] != 0 {
-            return false;
+    // Whether only zeros stand behind the octets that it holds.
+    fn clear(&self) -> bool
+        ensures { result ≡ all_zero (drop self.now.count self.now.pending) }
+    {
+        self.pending.iter().skip(self.count).all(|&b| b == 0)
+    }
+
+    // The octets that it holds of an unfinished T-field.
+    fn held(&self) -> &[u8]
+        requires { self.now.count ≤ 12 }
+        ensures { result.now ≡ held_in self.now }
+    {
+        &self.pending[..self.count]
+    }
+
+    // The n T-fields that a piece completes, each into its row; what is left is then held.
+    #[tactic(auto, using(crate::proofs::Passing::held_low, crate::proofs::Passing::waits_within, crate::proofs::Passing::waits))]
+    fn pass(&mut self, l: Layout, n: usize, piece: &[u8], rows: &mut [[i64; 3]])
+        requires { Passes l n self.old piece.now rows.old }
+        ensures { Passed l self.old piece.now self.new rows.old rows.new }
+    {
+        if n == 0 {
+            self.pending = joined(self.held(), piece);
+            self.count += piece.len();
+            return;
         }
-        i += 1;
-    }
-    true
-}
-
-// How many T-fields of w octets some bytes complete, behind count octets that are held.
-fn completes(w: usize, count: usize, bytes: usize) -> usize
-    requires { count < w }
-    ensures { result ≡ (count + bytes) / w }
-{
-    let lacking = w - count;
-    if bytes < lacking {
-        return 0;
-    }
-    1 + (bytes - lacking) / w
-}
-
-// The n T-fields that a piece completes, each into its row; and what is then held.
-fn pass(l: Layout, n: usize, held: Held, piece: &[u8], rows: &mut [[i64; 3]]) -> Held
-    requires { Passes l n held piece.now rows.old }
-    ensures { Passed l (held_by held ++ piece.now) rows.old rows.new result }
-{
-    let count = held.count;
-    let bytes = held.bytes;
-    let run = joined(bytes, count, piece);
-    if n == 0 {
-        let longer = narrowed(run);
-        let more = count + piece.len();
-        return Held {
-            bytes: longer,
-            count: more,
-        };
-    }
-    let first = row_at(&run, 0, l);
-    rows[0] = first;
-    let lacking = codes::size(l) - count;
-    let end = go_on(piece, lacking, l, &mut rows[1..], n - 1);
-    let rest = joined([0u8; 12], 0, &piece[end..]);
-    let left = narrowed(rest);
-    let over = piece.len() - end;
-    Held {
-        bytes: left,
-        count: over,
+        let run: [u8; 13] = joined(self.held(), piece);
+        rows[0] = row_at(&run, 0, l);
+        let lacking = codes::size(l) - self.count;
+        let end = go_on(piece, lacking, l, &mut rows[1..n]);
+        let rest = &piece[end..];
+        self.pending = joined(&[], rest);
+        self.count = rest.len();
     }
 }
 
-// The row of a T-field.
+// The row of a T-field, as the C interface lays it out: 0, seconds and ticks, or the refusal's number and zeros.
+#[tactic(auto, using(crate::proofs::Rows::ticks_low))]
 fn row_at(s: &[u8], at: usize, l: Layout) -> [i64; 3]
     ensures { result ≡ row_of (field_of builtin s.now at l) }
 {
     match codes::read_field(s, at, l) {
-        RecordAnswer::Refused(why) => {
-            let number = why.number() as i64;
-            [number, 0, 0]
-        }
-        RecordAnswer::Done(r) => {
-            let sec = r.sec;
-            let ticks = r.ticks as i64;
-            [0, sec, ticks]
-        }
+        Ok(r) => [0, r.sec, r.ticks as i64],
+        Err(why) => [i64::from(why.number()), 0, 0],
     }
 }
 
-// The first 13 octets of a run, which are held and then in a piece, with zeros behind its end: a whole T-field, where it
-// has one.
-fn joined(bytes: [u8; 12], count: usize, piece: &[u8]) -> [u8; 13]
-    requires { count ≤ 12 }
-    ensures { result ≡ padded 13 (take count bytes ++ piece.now) }
+// The first N octets of a run, which are held and then in a piece, with zeros behind its end: of 13, a whole T-field,
+// where it has one. Octet by octet: a copy of some number would call the C library's memcpy, which the shared library lacks.
+fn joined<const N: usize>(held: &[u8], piece: &[u8]) -> [u8; N]
+    ensures { result ≡ padded N (held.now ++ piece.now) }
 {
-    let mut run = [0u8; 13];
-    let mut i = 0;
-    while i < 13 {
-        run[i] = octet_at(bytes, count, piece, i);
-        i += 1;
+    let mut run = [0u8; N];
+    let octets = &mut run[..];
+    for (i, octet) in octets.iter_mut().enumerate() {
+        *octet = octet_at(held, piece, i);
     }
     run
 }
 
 // The octet of a run at a place, or 0 past its end.
-fn octet_at(bytes: [u8; 12], count: usize, piece: &[u8], i: usize) -> u8
-    requires { count ≤ 12 }
-    ensures { result ≡ get_or (take count bytes ++ piece.now) i 0 }
+#[tactic(auto, using(crate::proofs::Pads::held_at, crate::proofs::Pads::fed_at))]
+fn octet_at(held: &[u8], piece: &[u8], i: usize) -> u8
+    ensures { result ≡ get_or (held.now ++ piece.now) i 0 }
 {
-    if i < count {
-        return bytes[i];
+    if i < held.len() {
+        held[i]
+    } else {
+        piece.get(i - held.len()).copied().unwrap_or(0)
     }
-    let at = i - count;
-    if at < piece.len() { piece[at] } else { 0 }
 }
 
-// The first 12 octets of 13.
-fn narrowed(run: [u8; 13]) -> [u8; 12]
-    ensures { result ≡ padded 12 run }
-{
-    let mut bytes = [0u8; 12];
-    let mut i = 0;
-    while i < 12 {
-        bytes[i] = run[i];
-        i += 1;
-    }
-    bytes
-}
-
-// The n T-fields of a piece from a place on, each into its row; and where they end.
-fn go_on(piece: &[u8], at: usize, l: Layout, rows: &mut [[i64; 3]], n: usize) -> usize
-    requires { (at + n * width_of l ≤ length piece.now) × (n ≤ length rows.old) }
-    ensures { (result ≡ at + n * width_of l) × (rows.new ≡ rows_over (fields_in builtin l n (drop at piece.now)) rows.old) }
+// The T-fields of a piece from a place on, one into each row; and where they end.
+fn go_on(piece: &[u8], at: usize, l: Layout, rows: &mut [[i64; 3]]) -> usize
+    requires { at + length rows.old * width_of l ≤ length piece.now }
+    ensures { (result ≡ at + length rows.old * width_of l) × (rows.new ≡ rows_over (fields_in builtin l (length rows.old) (drop at piece.now)) rows.old) }
 {
     let w = codes::size(l);
+    // `end` by hand: a `zip` on `iter_mut` loses the rows in the proof
     let mut end = at;
-    let mut i: usize = 0;
-    while i < n {
-        let row = row_at(piece, end, l);
-        rows[i] = row;
+    for row in rows.iter_mut() {
+        *row = row_at(piece, end, l);
         end += w;
-        i += 1;
     }
     end
 }

@@ -1,5 +1,5 @@
 -- A second of P ticks in n equal parts, each a whole number of ticks: the ticks of some parts, and the parts of some ticks taken downward. One law of each, whatever P and n.
-use mathlib.Core.Path.{◌≡◌, refl, sym, ap, ◌∙◌}
+use mathlib.Core.Path.{◌≡◌, sym, ap, ◌∙◌}
 use Prim.Native.Nat.{ℕ, ◌+◌, ◌*◌, ◌-◌, ◌/◌, ◌^◌, ◌<◌, ◌≤◌}
 use native.Mathlib.Nat.{one-le-pow, mul_assoc, mul_comm, mul-pos, mul-lt-mul_of_pos_right, mul-le-mul_right, mul-div_cancel, le-div_iff_mul-le, div-lt_iff_lt-mul, div-mul-le_self}
 use native.Mathlib.Omega.{arith}

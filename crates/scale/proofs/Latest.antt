@@ -1,10 +1,7 @@
 -- The one law of order that every code's writing goes by.
 use mathlib.Core.Path.{◌≡◌}
-use mathlib.Core.Bool.{true}
 use Prim.Native.Nat.{◌<◌}
 use native.Mathlib.Omega.{arith}
-use lib.Signed.{le_z}
-use Rattle.base.specs.Parts.{plus, minus}
 use Rattle.base.proofs.Signed.{same, le_yes, le_so}
 use Rattle.scale.specs.Time.{Time, per_second, worth}
 use Rattle.scale.specs.Latest.{NotAfter, Latest}

@@ -1,16 +1,18 @@
 -- The laws of the exact scale.
 use mathlib.Core.Path.{◌≡◌, refl, sym, ap, ◌∙◌}
 use mathlib.Core.Bool.{Bool, true, false, cond, ◌&&◌}
-use Prim.Native.Nat.{ℕ, ◌+◌, ◌*◌, ◌-◌, ◌^◌, ◌<◌, ◌≤◌}
+use Prim.Native.Nat.{ℕ, ◌+◌, ◌*◌, ◌-◌, ◌^◌, ◌<◌}
 use native.Mathlib.Omega.{arith}
 use lib.Dec.{ltb, lit<}
-use lib.IntN.{ℤ, pos, neg_ℤ, ◌+ℤ◌, ◌-ℤ◌, ◌*ℤ◌}
+use lib.IntN.{ℤ, pos, negsuc, neg_ℤ, ◌+ℤ◌, ◌-ℤ◌}
 use lib.Signed.{lt_z}
 use borrow.Author.Tests.{ltb-true, ltb-false, lt-ltb}
+use Rattle.base.specs.Outcome.{Outcome, done, need}
+use Rattle.base.proofs.Ladders.{need_done, done_is}
 use Rattle.base.specs.Parts.{plus, minus, within}
 use Rattle.base.proofs.Bools.{and_true, and_yes, by_two}
-use Rattle.base.proofs.Signed.{same, sum, difference, line, floor_line, floor_rest, neg_plus, neg_minus, apart, within_low, within_high, within_yes, rest_lt, lt_yes, lt_no, lt_so, lt_not}
-use Rattle.scale.specs.Time.{Time, per_second, worth, of_ticks, good, is_record, earlier}
+use Rattle.base.proofs.Signed.{same, sum, difference, line, floor_line, floor_rest, neg_plus, neg_minus, apart, within_low, within_high, within_yes, lt_yes, lt_no, lt_so, lt_not}
+use Rattle.scale.specs.Time.{Time, per_second, worth, of_ticks, good, held, is_record, is_span, earlier}
 use Rattle.scale.specs.Inner.{Within, Less, Together}
 
 -- ---- a good time, and the same of its parts
@@ -31,6 +33,32 @@ unfolding good
 within_good H t p =
     and_yes _ (within_yes (neg_ℤ (pos H)) (pos (H - 1)) t.sec (omega (arith, neg_plus (pos H), neg_minus (pos H))) (omega arith))
     ∙ lt-ltb t.ticks per_second p.below
+
+-- a record and a span are such by the last seconds of the two types
+pub held_record : (t : Time) → held (pos (2 ^ 41 - 1)) t ≡ is_record t
+held_record t = refl
+
+pub held_span : (t : Time) → held (pos (2 ^ 42 - 1)) t ≡ is_span t
+held_span t = refl
+
+-- the range by its last second, as the code tests it
+pub held_is : (last : ℤ) (t : Time) → within (negsuc 0 -ℤ last) last t.sec && ltb t.ticks per_second ≡ held last t
+unfolding good
+held_is (pos n) t =
+    let first : negsuc 0 -ℤ pos n ≡ neg_ℤ (pos (n + 1)) = same _ _ (omega (arith, difference (negsuc 0) (pos n), apart (negsuc 0 -ℤ pos n), neg_plus (pos (n + 1)), neg_minus (pos (n + 1)))) in
+    let last : n ≡ n + 1 - 1 = omega arith in
+    ap (λ (z : ℤ). within z (pos n) t.sec && ltb t.ticks per_second) first ∙ ap (λ (m : ℕ). within (neg_ℤ (pos (n + 1))) (pos m) t.sec && ltb t.ticks per_second) last
+held_is (negsuc n) t =
+    let lo = negsuc 0 -ℤ negsuc n in
+    let none : within lo (negsuc n) t.sec ≡ false = by_two _ false (λ h. absurd (omega (arith, within_low lo (negsuc n) t.sec h, within_high lo (negsuc n) t.sec h, difference (negsuc 0) (negsuc n), apart lo))) (λ h. refl) in
+    ap (λ (b : Bool). b && ltb t.ticks per_second) none
+
+-- what passes the test of a range is what went in, and good
+pub passed : (H : ℕ) (t x : Time) → ◌≡◌ {A = Outcome Time} (done x) (need (good H t) 7 (done t)) → (good H x ≡ true) × (t ≡ x)
+passed H t x e =
+    let b = need_done (good H t) 7 (done t) x (sym e) in
+    let same : t ≡ x = done_is t x b.1 in
+    (rw same at b.0, same)
 
 pub record_ticks : (t : Time) → is_record t ≡ true → t.ticks < per_second
 record_ticks t e = (good_within (2 ^ 41) t (lit< tt) e).below

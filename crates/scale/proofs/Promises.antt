@@ -1,7 +1,7 @@
 -- What spans two calls of the scale, as theorems about the definitions that the contracts cite.
-use mathlib.Core.Path.{◌≡◌, refl, sym, ap, ◌∙◌}
-use mathlib.Core.Bool.{Bool, true}
-use Prim.Native.Nat.{◌^◌, ◌<◌}
+use mathlib.Core.Path.{◌≡◌, ap, ◌∙◌}
+use mathlib.Core.Bool.{true}
+use Prim.Native.Nat.{◌^◌}
 use native.Mathlib.Omega.{arith}
 use lib.Dec.{lit<}
 use lib.IntN.{ℤ, ◌+ℤ◌, ◌-ℤ◌}
@@ -9,7 +9,7 @@ use lib.Signed.{lt_z}
 use Rattle.base.specs.Outcome.{done}
 use Rattle.base.proofs.Ladders.{need_yes}
 use Rattle.base.proofs.Signed.{same, sum, difference, rest_lt}
-use Rattle.scale.specs.Time.{Time, per_second, worth, of_ticks, is_record, is_span, record_of, difference_of, shift_of, earlier}
+use Rattle.scale.specs.Time.{Time, worth, of_ticks, is_record, is_span, record_of, difference_of, shift_of, earlier}
 use Rattle.scale.proofs.Laws.{record_ticks, good_within, within_good, of_ticks_worth, worth_of_ticks, difference_within, earlier_worth}
 
 module _ (a b : Time) (ga : is_record a ≡ true) (gb : is_record b ≡ true) where

@@ -1,8 +1,8 @@
 -- The exact scale (document 01, "The record"). A time is whole seconds and ticks, and is worth a whole number of ticks.
-use Rattle.std.specs.Prelude.{ℕ, ◌-◌, ◌^◌, Bool, true, false, cond, ◌&&◌, ltb, ℤ, pos, neg_ℤ, ◌+ℤ◌, ◌-ℤ◌, ◌*ℤ◌}
+use Rattle.std.specs.Prelude.{ℕ, ◌+◌, ◌-◌, ◌^◌, Bool, true, false, cond, ◌&&◌, ltb, ℤ, pos, negsuc, neg_ℤ, ◌+ℤ◌, ◌-ℤ◌, ◌*ℤ◌}
 use Rattle.std.specs.Int.Signed.{lt_z}
 use Rattle.base.specs.Parts.{within, floor, rest}
-use Rattle.base.specs.Outcome.{Outcome, done, refused, need}
+use Rattle.base.specs.Outcome.{Outcome, done, need}
 
 -- "A second has 4,096,000,000,000,000 ticks"
 abbrev pub per_second : ℕ
@@ -24,6 +24,14 @@ of_ticks z = record { sec = floor z per_second; ticks = rest z per_second }
 -- seconds from -H to H - 1, and less than a second of ticks
 unfoldable pub good : ℕ → Time → Bool
 good H t = within (neg_ℤ (pos H)) (pos (H - 1)) t.sec && ltb t.ticks per_second
+
+-- the same by the last second, where a last second before 0 leaves none
+abbrev pub held : ℤ → Time → Bool
+held (pos n) t = good (n + 1) t
+held (negsuc n) t = false
+
+abbrev pub held_of : ℤ → Time → Outcome Time
+held_of last t = need (held last t) 7 (done t)
 
 -- "from -2^41 to 2^41 - 1, and ticks from 0 to 4,095,999,999,999,999 .. Anything else is an invalid record"
 abbrev pub is_record : Time → Bool

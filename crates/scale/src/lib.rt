@@ -3,169 +3,96 @@
 
 ghost use Rattle.std.specs.Prelude.{◌≡◌, ◌^◌};
 ghost use Rattle.base.specs.Parts.{At};
-ghost use Rattle.scale.specs.Time.{is_record, is_span, record_of, span_of, difference_of, shift_of, earlier};
-ghost use Rattle.scale.specs.Answers.{recorded, spanned, says_record, says_span};
+ghost use Rattle.base.specs.Said.{says};
+ghost use Rattle.scale.specs.Time.{held, held_of, difference_of, shift_of, earlier};
+ghost use Rattle.scale.specs.Answers.{timed, recorded, spanned, says_record, says_span};
 ghost use Rattle.scale.specs.Inner.{Within, Less, Together};
 
 use base::Refusal;
 
-// Whole TAI seconds from 1958-01-01T00:00:00 TAI, and ticks of a second.
-#[derive(Clone, Copy)]
-pub struct Record {
+// Whole seconds, from -LAST - 1 to LAST where they are valid, and ticks of a second, which are never negative.
+#[derive(Clone, Copy, Debug, PartialEq, Eq, PartialOrd, Ord)]
+pub struct Seconds<const LAST: i64> {
     pub sec: i64,
     pub ticks: u64,
 }
 
-// Whole seconds, and ticks that are never negative: minus half a second is -1 s and half a second of ticks.
-#[derive(Clone, Copy)]
-pub struct Span {
-    pub sec: i64,
-    pub ticks: u64,
-}
+// A moment: TAI seconds from 1958-01-01T00:00:00 TAI.
+pub type Record = Seconds<2199023255551>;
 
-#[derive(Clone, Copy)]
-pub enum RecordAnswer {
-    Done(Record),
-    Refused(Refusal),
-}
-
-#[derive(Clone, Copy)]
-pub enum SpanAnswer {
-    Done(Span),
-    Refused(Refusal),
-}
+// The way from one moment to another: minus half a second is -1 s and half a second of ticks.
+pub type Span = Seconds<4398046511103>;
 
 impl Record {
     // The ticks of a second.
     pub const TICKS: u64 = 4_096_000_000_000_000;
+}
 
-    pub fn new(sec: i64, ticks: u64) -> RecordAnswer
-        ensures { says_record result ≡ record_of (record { sec = sec; ticks = ticks }) }
+impl<const LAST: i64> Seconds<LAST> {
+    pub fn new(sec: i64, ticks: u64) -> Result<Self, Refusal>
+        ensures { says timed result ≡ held_of LAST (record { sec = sec; ticks = ticks }) }
     {
-        let r = Record {
-            sec: sec,
-            ticks: ticks,
-        };
-        if r.valid() {
-            RecordAnswer::Done(r)
-        } else {
-            RecordAnswer::Refused(Refusal::Range)
-        }
+        Self { sec, ticks }.in_range()
     }
 
     pub fn valid(self) -> bool
-        ensures { result ≡ is_record (recorded self) }
+        ensures { result ≡ held LAST (timed self.entry) }
     {
-        let sec = self.sec;
-        let ticks = self.ticks;
-        base::between(-2199023255552, 2199023255551, sec) && ticks < Record::TICKS
+        base::between(-1 - LAST, LAST, self.sec) && self.ticks < Record::TICKS
+    }
+
+    // Itself, if it is valid.
+    fn in_range(self) -> Result<Self, Refusal>
+        ensures { says timed result ≡ held_of LAST (timed self.entry) }
+    {
+        if self.valid() {
+            Ok(self)
+        } else {
+            Err(Refusal::Range)
+        }
     }
 
     // The seconds, raised by 2^63.
     pub fn raised(self) -> u64
-        ensures { At (2 ^ 63) result self.sec }
+        ensures { At (2 ^ 63) result self.entry.sec }
     {
-        let sec = self.sec;
-        base::raised(sec)
+        base::raised(self.sec)
     }
 
-    // The record of seconds that were raised by 2^63.
-    pub fn lowered(n: u64, ticks: u64) -> Record
+    // With seconds that were raised by 2^63.
+    pub fn lowered(n: u64, ticks: u64) -> Self
         ensures { At (2 ^ 63) n result.sec × (result.ticks ≡ ticks) }
     {
-        let sec = base::lowered(n);
-        Record {
-            sec: sec,
-            ticks: ticks,
-        }
-    }
-}
-
-impl Span {
-    pub fn new(sec: i64, ticks: u64) -> SpanAnswer
-        ensures { says_span result ≡ span_of (record { sec = sec; ticks = ticks }) }
-    {
-        let s = Span {
-            sec: sec,
-            ticks: ticks,
-        };
-        if s.valid() {
-            SpanAnswer::Done(s)
-        } else {
-            SpanAnswer::Refused(Refusal::Range)
-        }
-    }
-
-    pub fn valid(self) -> bool
-        ensures { result ≡ is_span (spanned self) }
-    {
-        let sec = self.sec;
-        let ticks = self.ticks;
-        base::between(-4398046511104, 4398046511103, sec) && ticks < Record::TICKS
-    }
-
-    pub fn raised(self) -> u64
-        ensures { At (2 ^ 63) result self.sec }
-    {
-        let sec = self.sec;
-        base::raised(sec)
-    }
-
-    pub fn lowered(n: u64, ticks: u64) -> Span
-        ensures { At (2 ^ 63) n result.sec × (result.ticks ≡ ticks) }
-    {
-        let sec = base::lowered(n);
-        Span {
-            sec: sec,
-            ticks: ticks,
+        Self {
+            sec: base::lowered(n),
+            ticks,
         }
     }
 }
 
 // a - b: shifting b by it gives a.
-pub fn difference(a: Record, b: Record) -> SpanAnswer
+pub fn difference(a: Record, b: Record) -> Result<Span, Refusal>
     ensures { says_span result ≡ difference_of (recorded a) (recorded b) }
 {
-    if !a.valid() {
-        return SpanAnswer::Refused(Refusal::Range);
-    }
-    if !b.valid() {
-        return SpanAnswer::Refused(Refusal::Range);
-    }
-    SpanAnswer::Done(apart(a, b))
+    let a = a.in_range()?;
+    let b = b.in_range()?;
+    Ok(apart(a, b))
 }
 
 // r + s
-pub fn shift(r: Record, s: Span) -> RecordAnswer
+pub fn shift(r: Record, s: Span) -> Result<Record, Refusal>
     ensures { says_record result ≡ shift_of (recorded r) (spanned s) }
 {
-    if !r.valid() {
-        return RecordAnswer::Refused(Refusal::Range);
-    }
-    if !s.valid() {
-        return RecordAnswer::Refused(Refusal::Range);
-    }
-    let to = moved(r, s);
-    if to.valid() {
-        RecordAnswer::Done(to)
-    } else {
-        RecordAnswer::Refused(Refusal::Range)
-    }
+    let r = r.in_range()?;
+    let s = s.in_range()?;
+    moved(r, s).in_range()
 }
 
 // Whether a stands before b: by the seconds, then by the ticks.
 pub fn before(a: Record, b: Record) -> bool
     ensures { result ≡ earlier (recorded a) (recorded b) }
 {
-    let x = a.raised();
-    let y = b.raised();
-    if x < y {
-        return true;
-    }
-    if y < x {
-        return false;
-    }
-    a.ticks < b.ticks
+    a < b
 }
 
 // a - b, which borrows a second where b has more ticks.
@@ -173,15 +100,17 @@ fn apart(a: Record, b: Record) -> Span
     requires { Within (2 ^ 41) (recorded a) × Within (2 ^ 41) (recorded b) }
     ensures { Less (recorded a) (recorded b) (spanned result) }
 {
-    // the seconds of b from -2^41 on, and the difference raised by 2^63
-    let from = b.raised() - base::RECORD_BIAS;
-    let to = a.raised() - from + 2199023255552;
-    let less = b.ticks;
-    let more = a.ticks;
-    if less <= more {
-        Span::lowered(to, more - less)
+    let sec = a.sec - b.sec;
+    if b.ticks <= a.ticks {
+        Span {
+            sec,
+            ticks: a.ticks - b.ticks,
+        }
     } else {
-        Span::lowered(to - 1, more + Record::TICKS - less)
+        Span {
+            sec: sec - 1,
+            ticks: a.ticks + Record::TICKS - b.ticks,
+        }
     }
 }
 
@@ -190,13 +119,14 @@ fn moved(r: Record, s: Span) -> Record
     requires { Within (2 ^ 41) (recorded r) × Within (2 ^ 42) (spanned s) }
     ensures { Together (recorded r) (spanned s) (recorded result) }
 {
-    // the seconds of s from -2^42 on, and the sum raised by 2^63
-    let by = s.raised() - 9223367638808264704;
-    let to = r.raised() - 4398046511104 + by;
+    let sec = r.sec + s.sec;
     let ticks = r.ticks + s.ticks;
     if ticks < Record::TICKS {
-        Record::lowered(to, ticks)
+        Record { sec, ticks }
     } else {
-        Record::lowered(to + 1, ticks - Record::TICKS)
+        Record {
+            sec: sec + 1,
+            ticks: ticks - Record::TICKS,
+        }
     }
 }

@@ -7,13 +7,18 @@ use lib.Dec.{leb}
 use borrow.Author.Tests.{le-leb, lt-leb, leb-true}
 use Rattle.base.specs.Outcome.{done}
 use Rattle.base.proofs.Bools.{and_true, and_yes, and_no, and_false}
-use Rattle.leap.specs.Table.{Table, good, offset, start, day_length, covers}
-use Rattle.leap.specs.Builtin.{builtin, first_index, first_raised, last_index, past_raised}
-use Rattle.leap.proofs.Builtin.{covered_days}
+use Rattle.std.specs.Prelude.{Result, Ok}
+use Rattle.base.specs.declared.Refusal.{Refusal}
+use Rattle.base.specs.Said.{said}
+use Rattle.base.proofs.Once.{said_done}
+use Rattle.leap.specs.declared.Day.{Day}
+use Rattle.leap.specs.Table.{Table, good, offset, start, day_length, covers, day_on, day_at}
+use Rattle.leap.specs.Builtin.{builtin, first_index, first_raised, last_index, past_index, past_raised}
+use Rattle.leap.proofs.Builtin.{covered_days, day_in_lem}
 use Rattle.leap.proofs.Days.{start_next, length_range}
-use Rattle.leap.proofs.Outcomes.{second_done}
+use Rattle.leap.proofs.Outcomes.{second_done, day_done}
 use Rattle.leap.proofs.Promises.{second_then_reading}
-use Rattle.window.specs.Window.{None}
+use Rattle.window.specs.Window.{Unnamed}
 use Rattle.seek.specs.Naming.{day_fits, clock_fits, fits_reading, names, covers_window}
 use Rattle.seek.specs.declared.Wants.{Wants}
 
@@ -29,6 +34,16 @@ pub cover_ends : (d : ℕ) → covers builtin d ≡ true → (first_index ≤ d)
 cover_ends d e =
     let (p, q) = and_true (leb first_index d) (leb d last_index) (sym (covered_days d) ∙ e) in
     (leb-true _ _ p, leb-true _ _ q)
+
+-- what the table tells of a covered day
+pub span_told : (d : ℕ) (r : Result Day Refusal) → first_index ≤ d → d < past_index → said r ≡ day_at builtin d → r ≡ Ok (day_on builtin d)
+span_told d r l h e = said_done r (day_on builtin d) (e ∙ day_done builtin d (day_in_lem d l (omega arith)))
+
+pub span_is : {d : ℕ} {r : Result Day Refusal} {y : Day} → first_index ≤ d → d < past_index → said r ≡ day_at builtin d → r ≡ Ok y → (y.start ≡ start builtin d) × (y.length ≡ day_length builtin d)
+span_is {d} {r} {y} l h e k =
+    let t = span_told d r l h e in
+    let z : y ≡ day_on builtin d = cc in
+    (ap (λ x. x.start) z, ap (λ x. x.length) z)
 
 -- the cover's ends, of windows
 covered_window : (from to : ℕ) → covers_window builtin from to ≡ (leb first_raised from && leb to past_raised)
@@ -60,7 +75,7 @@ module _ (t : Table) (ok : good t ≡ true) (g : Wants) (d : ℕ) (in_table : co
       sym (ap (names t g) e) ∙ named_at (k - start t d) (omega (arith, start_next t ok d))
 
   -- no second of a day that does not fit is named
-  pub day_none : day_fits g.calendar d ≡ false → None (names t g) (start t d) (start t (d + 1))
+  pub day_none : day_fits g.calendar d ≡ false → Unnamed (names t g) (start t d) (start t (d + 1))
   day_none f k l h = named_in k l h ∙ and_no _ f
 
   -- nor one whose second of the day does not fit

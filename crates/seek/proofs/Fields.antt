@@ -1,21 +1,21 @@
 -- A look at one second of a day: which stretch of the day it rules out.
 use mathlib.Core.Bool.{Bool, true, false, ◌&&◌}
-use mathlib.Core.Path.{◌≡◌, refl, ◌∙◌}
+use mathlib.Core.Path.{◌≡◌, refl, sym, ◌∙◌}
 use Prim.Native.Nat.{ℕ, ◌+◌, ◌-◌, ◌*◌, ◌/◌, ◌%◌, ◌≤◌, ◌<◌, min}
 use native.Mathlib.Omega.{arith}
 use borrow.Author.Tests.{eq-eqb, ne_eqb, lt-ltb}
-use Rattle.base.proofs.Bools.{and_no, and_false}
+use Rattle.base.proofs.Bools.{never_both, and_no, and_false, and_assoc}
 use Rattle.seek.specs.Naming.{may, clock_fits}
 use Rattle.seek.specs.Inner.{Ahead, Skips}
-use Rattle.seek.specs.declared.Want.TheVariants.{Free, Is}
 use Rattle.seek.specs.declared.Clock.{Clock}
+use Rattle.std.specs.Prelude.{Option, Some, None, MatchOption}
 
 -- ---- one field: anything, one that has passed in this sixty, and one that has not
-pub ahead_free : (n : ℕ) → Ahead Free n n
+pub ahead_free : (n : ℕ) → Ahead None n n
 ahead_free n = record { on = omega arith; within = omega arith; none = λ k l g. absurd (omega arith); here = λ q. refl }
 
 module _ (v n r : ℕ) where
-  pub ahead_past : v < n % 60 → r ≡ n - n % 60 + 60 → Ahead (Is v) n r
+  pub ahead_past : v < n % 60 → r ≡ n - n % 60 + 60 → Ahead (Some v) n r
   ahead_past h e =
       record {
         on = omega arith;
@@ -24,7 +24,7 @@ module _ (v n r : ℕ) where
         here = λ q. absurd (omega arith);
       }
 
-  pub ahead_on : n % 60 ≤ v → r ≡ n - n % 60 + min v 60 → Ahead (Is v) n r
+  pub ahead_on : n % 60 ≤ v → r ≡ n - n % 60 + min v 60 → Ahead (Some v) n r
   ahead_on h e =
       record {
         on = omega arith;
@@ -32,6 +32,11 @@ module _ (v n r : ℕ) where
         none = λ k l g. ne_eqb v (k % 60) (λ q. omega arith);
         here = λ q. eq-eqb v (n % 60) (omega arith);
       }
+
+-- a wanted number from sixty on fits no place in a sixty
+pub past_sixty : (w : Option ℕ) (Q : ℕ → Type 0) → MatchOption w (true ≡ false) Q → ((v : ℕ) → Q v → 60 ≤ v) → (n : ℕ) → n < 60 → may w n ≡ false
+past_sixty None Q e l n h = never_both refl e
+past_sixty (Some v) Q e l n h = let k : 60 ≤ v = l v e in ne_eqb v n (λ q. omega arith)
 
 -- ---- the fields of a second of a day but 23:59:60, and of that one
 fits_common : (k : Clock) (x : ℕ) → x < 86400 → clock_fits k x ≡ (may k.hour (x / 3600) && (may k.minute (x / 60 % 60) && may k.second (x % 60)))
@@ -41,9 +46,9 @@ fits_common k x h =
     let b : x - x / 60 * 60 ≡ x % 60 = omega arith in
     rw (lt-ltb x 86400 h) (rw (a, b))
 
-fits_leap : (k : Clock) → clock_fits k 86400 ≡ (may k.hour 23 && (may k.minute 59 && may k.second 60))
+fits_leap : (k : Clock) → clock_fits k 86400 ≡ (may k.hour 23 && may k.minute 59 && may k.second 60)
 unfolding clock_fits
-fits_leap k = refl
+fits_leap k = sym (and_assoc (may k.hour 23) (may k.minute 59) (may k.second 60))
 
 -- a field that does not fit
 hour_no : (a b c : Bool) → a ≡ false → (a && (b && c)) ≡ false
@@ -114,7 +119,7 @@ module _ (k : Clock) (s : ℕ) (h : s < 86400) where
       }
 
 module _ (k : Clock) (s r : ℕ) (i : s ≡ 86400) where
-  pub leap_fits : (may k.hour 23 && (may k.minute 59 && may k.second 60)) ≡ true → r ≡ 86400 → Skips k s r
+  pub leap_fits : (may k.hour 23 && may k.minute 59 && may k.second 60) ≡ true → r ≡ 86400 → Skips k s r
   leap_fits e j =
       record {
         on = omega arith;
@@ -124,7 +129,7 @@ module _ (k : Clock) (s r : ℕ) (i : s ≡ 86400) where
         here = λ q. rw i (fits_leap k ∙ e);
       }
 
-  pub leap_not : (may k.hour 23 && (may k.minute 59 && may k.second 60)) ≡ false → r ≡ 86401 → Skips k s r
+  pub leap_not : (may k.hour 23 && may k.minute 59 && may k.second 60) ≡ false → r ≡ 86401 → Skips k s r
   leap_not e j =
       record {
         on = omega arith;

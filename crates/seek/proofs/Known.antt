@@ -8,11 +8,10 @@ use Rattle.leap.specs.Table.{offset, start, day_holding, covers_second, reading_
 use Rattle.leap.specs.Builtin.{builtin}
 use Rattle.window.specs.Window.{Named, up, range, cons_if, filter, named_in}
 use Rattle.seek.specs.Naming.{day_fits, clock_fits, names, covers_window, list_of}
-use Rattle.seek.specs.declared.Want.{Want}
-use Rattle.seek.specs.declared.Want.TheVariants.{Free, Is}
 use Rattle.seek.specs.declared.Wants.{Wants}
+use Rattle.std.specs.Prelude.{ℕ, Option, Some, None}
 
-abbrev wants : Want → Want → Want → Want → Want → Want → Want → Wants
+abbrev wants : Option ℕ → Option ℕ → Option ℕ → Option ℕ → Option ℕ → Option ℕ → Option ℕ → Wants
 wants y mo d o h mi s =
     record { calendar = record { year = y; month = mo; day = d; ordinal = o }; clock = record { hour = h; minute = mi; second = s }; ticks = 7 }
 
@@ -21,12 +20,12 @@ told all = done (record { ticks = 7; all = all })
 
 -- of the seconds 23:59:58 to 00:00:01: "::60", "-366T23:59:60", "-12-31T23:59:59", ":00:00", "2016" with all else free, "-02-29"
 around : map (λ g. list_of builtin g 63618825698 63618825702) (
-    wants Free Free Free Free Free Free (Is 60) ∷
-    wants Free Free Free (Is 366) (Is 23) (Is 59) (Is 60) ∷
-    wants Free (Is 12) (Is 31) Free (Is 23) (Is 59) (Is 59) ∷
-    wants Free Free Free Free Free (Is 0) (Is 0) ∷
-    wants (Is 2016) Free Free Free Free Free Free ∷
-    wants Free (Is 2) (Is 29) Free Free Free Free ∷ []) ≡
+    wants None None None None None None (Some 60) ∷
+    wants None None None (Some 366) (Some 23) (Some 59) (Some 60) ∷
+    wants None (Some 12) (Some 31) None (Some 23) (Some 59) (Some 59) ∷
+    wants None None None None None (Some 0) (Some 0) ∷
+    wants (Some 2016) None None None None None None ∷
+    wants None (Some 2) (Some 29) None None None None ∷ []) ≡
     told (pos 1861920036 ∷ []) ∷
     told (pos 1861920036 ∷ []) ∷
     told (pos 1861920035 ∷ []) ∷

@@ -1,5 +1,5 @@
 -- Which moments have wanted fields (document 01, "Shortened tags"), by the fields that their own full codes show.
-use Rattle.std.specs.Prelude.{Bool, true, false, ◌&&◌, map, ℕ, ◌+◌, ◌-◌, ◌*◌, ◌/◌, ◌%◌, eqb, leb, ℤ}
+use Rattle.std.specs.Prelude.{Bool, true, false, ◌&&◌, map, ℕ, ◌+◌, ◌-◌, ◌*◌, ◌/◌, ◌%◌, eqb, leb, ℤ, Option, Some, None}
 use Rattle.base.specs.Outcome.{Outcome, done, refused, need}
 use Rattle.base.specs.Parts.{lowered_by}
 use Rattle.calendar.specs.Gregorian.{ordinal_on, date_in}
@@ -8,16 +8,14 @@ use Rattle.leap.specs.Utc.{second_raise}
 use Rattle.leap.specs.declared.Reading.{Reading}
 use Rattle.clock.specs.Clock.{minute_of}
 use Rattle.window.specs.Window.{Named, named_in}
-use Rattle.seek.specs.declared.Want.{Want}
-use Rattle.seek.specs.declared.Want.TheVariants.{Free, Is}
 use Rattle.seek.specs.declared.Calendar.{Calendar}
 use Rattle.seek.specs.declared.Clock.{Clock}
 use Rattle.seek.specs.declared.Wants.{Wants}
 
 -- a free field may be anything
-abbrev pub may : Want → ℕ → Bool
-may Free n = true
-may (Is v) n = eqb v n
+abbrev pub may : Option ℕ → ℕ → Bool
+may None n = true
+may (Some v) n = eqb v n
 
 -- the day with index n has the wanted fields of a date
 unfoldable pub day_fits : Calendar → ℕ → Bool

@@ -2,28 +2,19 @@
 // index, and a TAI second is raised as leap raises it.
 #![tactic(auto)]
 
-ghost use Rattle.std.specs.Prelude.{◌≡◌, true, false, ◌&&◌, map, ℕ, ◌-◌, ◌≤◌, ◌<◌, min};
-ghost use Rattle.base.specs.Outcome.{done};
-ghost use Rattle.base.specs.Parts.{lowered_by};
+ghost use Rattle.std.specs.Prelude.{◌≡◌, true, ◌&&◌, ℕ, ◌+◌, ◌≤◌, ◌<◌};
 ghost use Rattle.calendar.specs.Gregorian.{ordinal_on, date_in};
-ghost use Rattle.leap.specs.Table.{reading_at, day_on};
-ghost use Rattle.leap.specs.Builtin.{builtin, first_index, last_index, first_raised, past_raised};
-ghost use Rattle.leap.specs.Utc.{second_raise};
+ghost use Rattle.leap.specs.Table.{start};
+ghost use Rattle.leap.specs.Builtin.{builtin, last_index, first_raised, past_raised};
 ghost use Rattle.window.specs.Window.{named_in, first_of, Lists};
 ghost use Rattle.seek.specs.Naming.{may, day_fits, names, list_of};
-ghost use Rattle.seek.specs.Inner.{Ahead, Skips};
+ghost use Rattle.seek.specs.Inner.{Ahead, Skips, left};
 
 use base::Refusal;
-use calendar::{DateAnswer, OrdinalAnswer};
-use leap::{CoveredDay, Day, Reading, ReadingAnswer};
-use window::{Found, Listing};
+use window::{Listed, Source};
 
-// What is wanted of a field.
-#[derive(Clone, Copy)]
-pub enum Want {
-    Free,
-    Is(u64),
-}
+// What is wanted of a field: one value, or any.
+pub type Want = Option<u64>;
 
 // The fields of a date: month and day, or the day of the year.
 #[derive(Clone, Copy)]
@@ -49,197 +40,149 @@ pub struct Wants {
     pub ticks: u64,
 }
 
+// The moments that have the wanted fields, from `at` on and before `to`. The window's last second is on the day `last`.
+#[derive(Drop)]
+struct Moments {
+    wants: Wants,
+    at: u64,
+    to: u64,
+    last: u64,
+    ghost covered: { (first_raised ≤ at) × (to ≤ past_raised) },
+    ghost ends: { (start builtin last ≤ to) × (to ≤ start builtin (last + 1)) × (last ≤ last_index) },
+}
+
 // Lists the moments that have the wanted fields, from `from` on and before `to`.
-pub fn list(wants: Wants, from: u64, to: u64, out: &mut [i64]) -> Listing
+pub fn list(wants: Wants, from: u64, to: u64, out: &mut [i64]) -> Result<Listed, Refusal>
     ensures { Lists (list_of builtin wants from to) out.old out.new result }
 {
-    if from < leap::FIRST_RAISED {
-        return Listing::Refused(Refusal::Uncovered);
-    }
-    if leap::PAST_RAISED < to {
-        return Listing::Refused(Refusal::Uncovered);
+    if from < leap::FIRST_RAISED || leap::PAST_RAISED < to {
+        return Err(Refusal::Uncovered);
     }
     if to <= from {
-        return Listing::Done {
+        return Ok(Listed {
             ticks: wants.ticks,
             count: 0,
             more: false,
-        };
+        });
     }
-    let last = reading_of(to - 1);
-    run(wants, from, to, last, out)
-}
-
-// Searches again and again, each time from one second past the last moment found. The window's last second has the
-// reading `last`.
-fn run(wants: Wants, from: u64, to: u64, last: Reading, out: &mut [i64]) -> Listing
-    requires { (first_raised ≤ from) × (to ≤ past_raised) × (reading_at builtin (to - 1) ≡ done last) }
-    ensures { Lists (done (record { ticks = wants.ticks; all = map (lowered_by second_raise) (named_in (names builtin wants) from to) })) out.old out.new result }
-{
-    let mut at = from;
-    let mut n: usize = 0;
-    loop {
-        let f = next(wants, at, to, last);
-        let Found::At(x) = f else {
-            return Listing::Done {
-                ticks: wants.ticks,
-                count: n,
-                more: false,
-            };
-        };
-        if n == out.len() {
-            return Listing::Done {
-                ticks: wants.ticks,
-                count: n,
-                more: true,
-            };
-        }
-        let sec = base::lowered(x + leap::SECOND_BIAS);
-        out[n] = sec;
-        n += 1;
-        at = x + 1;
-    }
-}
-
-// The first moment from `from` on and before `to`. A day's begin and length are asked only of a day that fits, and its
-// seconds are looked at up to its end or the window's.
-fn next(wants: Wants, from: u64, to: u64, last: Reading) -> Found
-    requires { (first_raised ≤ from) × (to ≤ past_raised) × (reading_at builtin (to - 1) ≡ done last) }
-    ensures { result ≡ first_of (named_in (names builtin wants) from to) }
-{
-    if to <= from {
-        return Found::Nothing;
-    }
-    let first = reading_of(from);
-    let mut day = first.day;
-    let mut s = first.second;
-    let found = 'days: loop {
-        if last.day < day {
-            break 'days Found::Nothing;
-        }
-        if day_fits(wants.calendar, day) {
-            let span = span_of(day);
-            let end = lesser(span.length, to - span.start);
-            'fields: while s < end {
-                let t = skip(wants.clock, s);
-                if t == s {
-                    break 'days Found::At(span.start + s);
-                }
-                s = t;
-            }
-        }
-        day += 1;
-        s = 0;
+    let last = leap::reading_at(to - 1).unwrap();
+    let moments = Moments {
+        wants,
+        at: from,
+        to,
+        last: last.day,
     };
-    found
+    Ok(window::fill(moments, wants.ticks, out))
 }
 
-// The UTC reading of a covered second, which leap never refuses.
-fn reading_of(s: u64) -> Reading
-    requires { (first_raised ≤ s) × (s < past_raised) }
-    ensures { reading_at builtin s ≡ done result }
-{
-    match leap::reading_at(s) {
-        ReadingAnswer::Done(r) => r,
-        ReadingAnswer::Refused(_) => Reading {
-            day: 0,
-            second: 0,
-            offset: 0,
-        },
+impl Source for Moments {
+    ghost left = { λ s. left s.wants s.at s.to };
+
+    fn next(&mut self) -> Option<i64> {
+        let found = self.first()?;
+        self.at = found + 1;
+        Some(base::lowered(found + leap::SECOND_BIAS))
     }
 }
 
-// When a covered day begins and how long it is, which leap never refuses.
-fn span_of(day: u64) -> Day
-    requires { (first_index ≤ day) × (day ≤ last_index) }
-    ensures { result ≡ day_on builtin day }
-{
-    match leap::day_at(day) {
-        CoveredDay::Done(d) => d,
-        CoveredDay::Refused(_) => Day {
-            start: 0,
-            length: 0,
-        },
+impl Moments {
+    // The first of them. A day's begin and length are asked only of a day that fits, and its seconds are looked at up to
+    // its end or the window's.
+    fn first(&self) -> Option<u64>
+        ensures { result ≡ first_of (named_in (names builtin self.now.wants) self.now.at self.now.to) }
+    {
+        if self.to <= self.at {
+            return None;
+        }
+        let first = leap::reading_at(self.at).unwrap();
+        let mut day = first.day;
+        let mut s = first.second;
+        // the labelled search that docs/FORMS.md names
+        let found = 'days: loop {
+            if self.last < day {
+                break 'days None;
+            }
+            if self.wants.calendar.fits(day) {
+                let span = leap::day_at(day).unwrap();
+                let end = span.length.min(self.to - span.start);
+                'fields: while s < end {
+                    let t = self.wants.clock.skip(s);
+                    if t == s {
+                        break 'days Some(span.start + s);
+                    }
+                    s = t;
+                }
+            }
+            day += 1;
+            s = 0;
+        };
+        found
     }
 }
 
-fn lesser(a: u64, b: u64) -> u64
-    ensures { result ≡ min a b }
-{
-    if a < b {
-        return a;
+// The bound on a day stays a `requires` of these three: a type with it would be the calendar's private one over again.
+impl Calendar {
+    // Whether a day has the wanted fields. The calendar is asked only where something is wanted of it.
+    fn fits(self, day: u64) -> bool
+        requires { day ≤ 3652058 }
+        ensures { result ≡ day_fits self day }
+    {
+        self.fits_ordinal(day) && self.fits_date(day)
     }
-    b
-}
 
-// Whether a day has the wanted fields of a date.
-fn day_fits(c: Calendar, n: u64) -> bool
-    requires { n ≤ 3652058 }
-    ensures { result ≡ day_fits c n }
-{
-    let year = c.year;
-    let month = c.month;
-    let day = c.day;
-    let ordinal = c.ordinal;
-    if !ordinal_fits(year, ordinal, n) {
-        return false;
+    fn fits_ordinal(self, day: u64) -> bool
+        requires { day ≤ 3652058 }
+        ensures { result ≡ (may self.year (ordinal_on day).year && may self.ordinal (ordinal_on day).day) }
+    {
+        if self.year.is_none() && self.ordinal.is_none() {
+            return true;
+        }
+        let shown = calendar::ordinal_at(day).unwrap();
+        fits(self.year, shown.year) && fits(self.ordinal, shown.day)
     }
-    date_fits(month, day, n)
-}
 
-// The calendar is asked only where something is wanted of it.
-fn ordinal_fits(year: Want, day: Want, n: u64) -> bool
-    requires { n ≤ 3652058 }
-    ensures { result ≡ (may year (ordinal_on n).year && may day (ordinal_on n).day) }
-{
-    if free(year) & free(day) {
-        return true;
-    }
-    match calendar::ordinal_at(n) {
-        OrdinalAnswer::Done(o) => fits(year, o.year) & fits(day, o.day),
-        OrdinalAnswer::Refused(_) => false,
+    fn fits_date(self, day: u64) -> bool
+        requires { day ≤ 3652058 }
+        ensures { result ≡ (may self.month (date_in (ordinal_on day)).month && may self.day (date_in (ordinal_on day)).day) }
+    {
+        if self.month.is_none() && self.day.is_none() {
+            return true;
+        }
+        let shown = calendar::date_at(day).unwrap();
+        fits(self.month, shown.month) && fits(self.day, shown.day)
     }
 }
 
-fn date_fits(month: Want, day: Want, n: u64) -> bool
-    requires { n ≤ 3652058 }
-    ensures { result ≡ (may month (date_in (ordinal_on n)).month && may day (date_in (ordinal_on n)).day) }
-{
-    if free(month) & free(day) {
-        return true;
-    }
-    match calendar::date_at(n) {
-        DateAnswer::Done(d) => fits(month, d.month) & fits(day, d.day),
-        DateAnswer::Refused(_) => false,
-    }
-}
-
-// The second of a day to look at next: `s` itself where it fits, or else a later one such that none between them fits.
-fn skip(k: Clock, s: u64) -> u64
-    requires { s ≤ 86400 }
-    ensures { Skips k s result }
-{
-    let hour = k.hour;
-    let minute = k.minute;
-    let second = k.second;
-    if s == 86400 {
-        if fits(hour, 23) & (fits(minute, 59) & fits(second, 60)) {
+impl Clock {
+    // The second of a day to look at next: `s` itself where it fits, or else a later one such that none between them fits.
+    // A second and no Option: the labelled search that docs/FORMS.md names goes on with it.
+    fn skip(self, s: u64) -> u64
+        requires { s ≤ 86400 }
+        ensures { Skips self s result }
+    {
+        if s == 86400 {
+            return if self.fits(23, 59, 60) { 86400 } else { 86401 };
+        }
+        // no second below sixty is wanted
+        if self.second.is_some_and(|v| 60 <= v) {
             return 86400;
         }
-        return 86401;
+        let h = ahead(self.hour, s / 3600);
+        if s / 3600 < h {
+            return (h * 3600).min(86400);
+        }
+        let m = ahead(self.minute, s / 60);
+        if s / 60 < m {
+            return m * 60;
+        }
+        ahead(self.second, s)
     }
-    if beyond(second) {
-        return 86400;
+
+    fn fits(self, hour: u64, minute: u64, second: u64) -> bool
+        ensures { result ≡ (may self.hour hour && may self.minute minute && may self.second second) }
+    {
+        fits(self.hour, hour) && fits(self.minute, minute) && fits(self.second, second)
     }
-    let h = ahead(hour, s / 3600);
-    if s / 3600 < h {
-        return lesser(h * 3600, 86400);
-    }
-    let m = ahead(minute, s / 60);
-    if s / 60 < m {
-        return m * 60;
-    }
-    ahead(second, s)
 }
 
 // The next number from n on whose place in its sixty is wanted, or else the next sixty's first.
@@ -247,42 +190,18 @@ fn ahead(want: Want, n: u64) -> u64
     requires { n < 86400 }
     ensures { Ahead want n result }
 {
-    match want {
-        Want::Free => n,
-        Want::Is(v) => {
-            let place = n % 60;
-            if v < place {
-                return n - place + 60;
-            }
-            n - place + lesser(v, 60)
-        }
+    let Some(v) = want else {
+        return n;
+    };
+    let place = n % 60;
+    if v < place {
+        return n - place + 60;
     }
+    n - place + v.min(60)
 }
 
 fn fits(want: Want, is: u64) -> bool
     ensures { result ≡ may want is }
 {
-    match want {
-        Want::Free => true,
-        Want::Is(v) => v == is,
-    }
-}
-
-fn free(want: Want) -> bool
-    ensures { result ≡ true → (n : ℕ) → may want n ≡ true }
-{
-    match want {
-        Want::Free => true,
-        Want::Is(_) => false,
-    }
-}
-
-// Whether nothing below sixty is wanted.
-fn beyond(want: Want) -> bool
-    ensures { result ≡ true → (n : ℕ) → n < 60 → may want n ≡ false }
-{
-    match want {
-        Want::Free => false,
-        Want::Is(v) => 60 <= v,
-    }
+    want.is_none_or(|v| v == is)
 }

@@ -26,7 +26,7 @@ use Rattle.seek.specs.declared.Clock.{Clock}
 use Rattle.seek.specs.Naming.{clock_fits}
 use Rattle.tag.specs.Forms.{Place, Form, Forms, days, months, hours, minutes, find}
 use Rattle.tag.specs.Tags.{until, is_free, is_lowest, clock_as, fraction_as, Daytime, daytime, time_in, good_clock}
-use Rattle.tag.specs.Inner.{forms, form_at}
+use Rattle.tag.proofs.Rows.{forms, form_at}
 use Rattle.tag.specs.Shortening.{digits_by, cut, low_from, Run}
 use Rattle.tag.proofs.Scans.{until_shape, until_past, find_each, find_alike, find_spelled}
 use Rattle.tag.proofs.Subfields.{clocked}

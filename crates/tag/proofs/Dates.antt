@@ -22,7 +22,7 @@ use Rattle.ascii.specs.Ascii.{number_at}
 use Rattle.seek.specs.Naming.{day_fits}
 use Rattle.tag.specs.Forms.{Form, days, months, hours, minutes, find}
 use Rattle.tag.specs.Tags.{until, calendar_as, good_day}
-use Rattle.tag.specs.Inner.{forms, form_at}
+use Rattle.tag.proofs.Rows.{forms, form_at}
 use Rattle.tag.specs.Shortening.{cut, low_from, Run}
 use Rattle.tag.proofs.Scans.{until_shape, find_spelled, find_each}
 use Rattle.tag.proofs.Subfields.{dated}

@@ -6,6 +6,7 @@ use native.Mathlib.Omega.{arith}
 use lib.Dec.{eqb, ltb, leb}
 use lib.ListN.{get_or}
 use borrow.Author.Tests.{eqb-true, leb-true}
+use Rattle.std.specs.Option.{unwrap_or}
 use Rattle.base.proofs.Bools.{and_true}
 use Rattle.base.proofs.Ladders.{need_done}
 use Rattle.calendar.specs.Gregorian.{kind, row, ordinal_on, date_in}
@@ -14,17 +15,16 @@ use Rattle.calendar.proofs.Dates.{GoodOrdinal, GoodDate, good_on, good_in, is_da
 use Rattle.clock.specs.Clock.{clock_ok, minute_of}
 use Rattle.clock.proofs.Laws.{shown_back}
 use Rattle.shape.proofs.Tests.{down_to, down_at}
-use Rattle.seek.specs.declared.Want.{Want}
-use Rattle.seek.specs.declared.Want.TheVariants.{Free, Is}
 use Rattle.seek.specs.declared.Calendar.{Calendar}
 use Rattle.seek.specs.declared.Clock.{Clock}
 use Rattle.seek.specs.Naming.{may, day_fits, clock_fits}
-use Rattle.tag.specs.Tags.{or_else, good_day_by, good_day, good_clock}
+use Rattle.tag.specs.Tags.{good_day_by, good_day, good_clock}
+use Rattle.std.specs.Prelude.{Option, Some, None}
 
 -- what is wanted of a field is what it has, or nothing
-either_way : (P : ℕ → Type 0) (w : Want) (v d : ℕ) → may w v ≡ true → P v → P d → P (or_else w d)
-either_way P Free v d e p q = q
-either_way P (Is a) v d e p q = subst P (sym (eqb-true a v e)) p
+either_way : (P : ℕ → Type 0) (w : Option ℕ) (v d : ℕ) → may w v ≡ true → P v → P d → P (unwrap_or w d)
+either_way P None v d e p q = q
+either_way P (Some a) v d e p q = subst P (sym (eqb-true a v e)) p
 
 -- ---- days
 -- a leap year has every day that any year has, and January every day that any month has
@@ -94,19 +94,19 @@ good_day_lem c n h e = go c.ordinal (day_may c n e).3
     own : GoodOrdinal (ordinal_on n).year (ordinal_on n).day
     own = good_on n h
 
-    go : (w : Want) → may w (ordinal_on n).day ≡ true → good_day_by c w ≡ true
-    go Free f =
+    go : (w : Option ℕ) → may w (ordinal_on n).day ≡ true → good_day_by c w ≡ true
+    go None f =
         let t = date_in (ordinal_on n) in
-        let Y = or_else c.year 2000 in
-        let M = or_else c.month 1 in
+        let Y = unwrap_or c.year 2000 in
+        let M = unwrap_or c.month 1 in
         let (a, b, d, _) = day_may c n e in
         let g = good_in (ordinal_on n) own in
         let p = either_way (λ y. GoodDate y t.month t.day) c.year (ordinal_on n).year 2000 a g (leap_date g) in
         let q = either_way (λ m. GoodDate Y m t.day) c.month t.month 1 b p (in_january p) in
-        is_date_lem Y M (or_else c.day 1) (either_way (λ d. GoodDate Y M d) c.day t.day 1 d q (on_the_first q))
-    go (Is o) f =
+        is_date_lem Y M (unwrap_or c.day 1) (either_way (λ d. GoodDate Y M d) c.day t.day 1 d q (on_the_first q))
+    go (Some o) f =
         let g : GoodOrdinal (ordinal_on n).year o = subst (GoodOrdinal (ordinal_on n).year) (sym (eqb-true o (ordinal_on n).day f)) own in
-        is_ordinal_lem (or_else c.year 2000) o (either_way (λ y. GoodOrdinal y o) c.year (ordinal_on n).year 2000 (day_may c n e).0 g (leap_ordinal g))
+        is_ordinal_lem (unwrap_or c.year 2000) o (either_way (λ y. GoodOrdinal y o) c.year (ordinal_on n).year 2000 (day_may c n e).0 g (leap_ordinal g))
 
 -- ---- clocks
 ok_hour : (h m s : ℕ) → clock_ok h m s ≡ true → clock_ok 23 m s ≡ true
@@ -149,5 +149,5 @@ good_clock_lem k x h e =
     let S = x - minute_of x * 60 in
     let ok = (need_done (clock_ok H M S) 4 _ x (shown_back x h)).0 in
     let p = either_way (λ i. clock_ok i M S ≡ true) k.hour H 23 a ok (ok_hour H M S ok) in
-    let q = either_way (λ i. clock_ok (or_else k.hour 23) i S ≡ true) k.minute M 59 b p (ok_minute (or_else k.hour 23) M S p) in
-    either_way (λ i. clock_ok (or_else k.hour 23) (or_else k.minute 59) i ≡ true) k.second S 0 c q (ok_second (or_else k.hour 23) (or_else k.minute 59) S q)
+    let q = either_way (λ i. clock_ok (unwrap_or k.hour 23) i S ≡ true) k.minute M 59 b p (ok_minute (unwrap_or k.hour 23) M S p) in
+    either_way (λ i. clock_ok (unwrap_or k.hour 23) (unwrap_or k.minute 59) i ≡ true) k.second S 0 c q (ok_second (unwrap_or k.hour 23) (unwrap_or k.minute 59) S q)

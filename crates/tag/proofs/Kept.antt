@@ -5,6 +5,7 @@ use mathlib.Core.List.{List, [], ◌++◌}
 use Prim.Native.Nat.{ℕ, ◌+◌}
 use lib.Dec.{leb, ltb}
 use lib.ListN.{length, take, drop}
+use Rattle.std.specs.Option.{unwrap_or}
 use Rattle.base.specs.Outcome.{Outcome, done, refused, given}
 use Rattle.base.proofs.Ladders.{done_is, need_done, then_done, given_done}
 use Rattle.base.proofs.Bools.{and_one}
@@ -12,15 +13,14 @@ use Rattle.calendar.specs.Gregorian.{is_year, kind, row, month_length, is_date}
 use Rattle.field.specs.Fields.{Field, first_bad}
 use Rattle.field.specs.Rules.{is_month, is_day, is_day_of_year, is_hour, is_minute, is_second}
 use Rattle.field.proofs.Laws.{first_append, date_all, ordinal_all, is_nowhere, none_then}
-use Rattle.seek.specs.declared.Want.{Want}
-use Rattle.seek.specs.declared.Want.TheVariants.{Free, Is}
 use Rattle.seek.specs.declared.Calendar.{Calendar}
 use Rattle.seek.specs.declared.Wants.{Wants}
 use Rattle.tag.specs.Forms.{Place, free, lowest, at, Form, Forms, days, months, hours, minutes, find}
-use Rattle.tag.specs.Tags.{calendar_as, clock_as, until, or_else, fraction_as, Daytime, daytime, unzoned, time_in, tag, midnight, any_day, alone_by, alone, joined, formed, good_day_by, good_day, good_clock, good_tag}
+use Rattle.tag.specs.Tags.{calendar_as, clock_as, until, fraction_as, Daytime, daytime, unzoned, time_in, tag, midnight, any_day, alone_by, alone, joined, formed, good_day_by, good_day, good_clock, good_tag}
 use Rattle.tag.specs.Fields as F
 use Rattle.tag.specs.Fields.{there, form_fields}
 use Rattle.tag.proofs.Standing.{Dropped, year_kept, month_kept, day_kept, ordinal_kept, hour_kept, minute_kept, second_kept}
+use Rattle.std.specs.Prelude.{Option, Some, None}
 
 -- no field of these is bad
 abbrev pub none : List Field → Bool
@@ -43,23 +43,23 @@ calendar_none s f = go (calendar_as s f).ordinal refl
     c : Calendar
     c = calendar_as s f
 
-    go : (w : Want) → (calendar_as s f).ordinal ≡ w → none (F.calendar_by f (calendar_as s f) w) ≡ good_day_by (calendar_as s f) w
-    go Free e =
-        let Y = or_else (calendar_as s f).year 2000 in
-        let M = or_else (calendar_as s f).month 1 in
-        let D = or_else (calendar_as s f).day 1 in
+    go : (w : Option ℕ) → (calendar_as s f).ordinal ≡ w → none (F.calendar_by f (calendar_as s f) w) ≡ good_day_by (calendar_as s f) w
+    go None e =
+        let Y = unwrap_or (calendar_as s f).year 2000 in
+        let M = unwrap_or (calendar_as s f).month 1 in
+        let D = unwrap_or (calendar_as s f).day 1 in
         none_there 0 f.first (is_year Y) _ (is_month M && is_day Y M D) (year_kept s f) (λ _. none_there 0 f.second (is_month M) _ (is_day Y M D) (month_kept s f) (λ m. last_there 0 f.third (is_day Y M D) (λ h. day_kept s f h m)))
         ∙ date_all Y M D
-    go (Is o) e =
-        let Y = or_else (calendar_as s f).year 2000 in
+    go (Some o) e =
+        let Y = unwrap_or (calendar_as s f).year 2000 in
         none_there 0 f.first (is_year Y) _ (is_day_of_year Y o) (year_kept s f) (λ _. last_there 0 f.fourth (is_day_of_year Y o) (ordinal_kept s f o e)) ∙ ordinal_all Y o
 
 clock_none : (from : ℕ) (s : List ℕ) (f : Form) → none (F.clock_fields from s f) ≡ good_clock (clock_as s f)
 unfolding F.clock_fields good_clock clock_as
 clock_none from s f =
-    let H = or_else (clock_as s f).hour 23 in
-    let N = or_else (clock_as s f).minute 59 in
-    let X = or_else (clock_as s f).second 0 in
+    let H = unwrap_or (clock_as s f).hour 23 in
+    let N = unwrap_or (clock_as s f).minute 59 in
+    let X = unwrap_or (clock_as s f).second 0 in
     none_there from f.first (is_hour H) _ (is_minute N && is_second H N X) (hour_kept s f) (λ _. none_there from f.second (is_minute N) _ (is_second H N X) (minute_kept s f) (λ _. last_there from f.third (is_second H N X) (second_kept s f)))
 
 -- ---- a time

@@ -6,14 +6,13 @@ use lib.ListN.{replicate}
 use Rattle.base.specs.Outcome.{done, refused}
 use Rattle.calendar.specs.Gregorian.{kind, row, month_length, is_date, is_ordinal}
 use Rattle.shape.specs.Quoted.{bytes}
-use Rattle.seek.specs.declared.Want.{Want}
-use Rattle.seek.specs.declared.Want.TheVariants.{Free, Is}
 use Rattle.seek.specs.declared.Wants.{Wants}
 use Rattle.shape.specs.Shapes.{shape_of}
 use Rattle.tag.specs.Forms.{days, months, hours, minutes}
 use Rattle.tag.specs.Tags.{calendar_as, clock_as, unzoned, time_in, alone, joined, formed, good_day, good_clock, want_of}
+use Rattle.std.specs.Prelude.{Option, Some, None}
 
-abbrev wants : Want → Want → Want → Want → Want → Want → Want → ℕ → Wants
+abbrev wants : Option ℕ → Option ℕ → Option ℕ → Option ℕ → Option ℕ → Option ℕ → Option ℕ → ℕ → Wants
 wants y m d o h i s k = record {
   calendar = record { year = y; month = m; day = d; ordinal = o };
   clock = record { hour = h; minute = i; second = s };
@@ -24,19 +23,19 @@ wants y m d o h i s k = record {
 calendars : List (List ℕ)
 calendars = bytes "2016-12-31" ∷ bytes "-12-31" ∷ bytes "--31" ∷ bytes "2016-366" ∷ bytes "-366" ∷ bytes "2016-12" ∷ bytes "-12" ∷ bytes "2016" ∷ bytes "-02-29" ∷ []
 
-abbrev date : Want → Want → Want → Want → Wants
-date y m d o = wants y m d o (Is 0) (Is 0) (Is 0) 0
+abbrev date : Option ℕ → Option ℕ → Option ℕ → Option ℕ → Wants
+date y m d o = wants y m d o (Some 0) (Some 0) (Some 0) 0
 
 calendars_want : map want_of calendars ≡
-    done (date (Is 2016) (Is 12) (Is 31) Free) ∷
-    done (date Free (Is 12) (Is 31) Free) ∷
-    done (date Free Free (Is 31) Free) ∷
-    done (date (Is 2016) Free Free (Is 366)) ∷
-    done (date Free Free Free (Is 366)) ∷
-    done (date (Is 2016) (Is 12) (Is 1) Free) ∷
-    done (date Free (Is 12) (Is 1) Free) ∷
-    done (date (Is 2016) (Is 1) (Is 1) Free) ∷
-    done (date Free (Is 2) (Is 29) Free) ∷ []
+    done (date (Some 2016) (Some 12) (Some 31) None) ∷
+    done (date None (Some 12) (Some 31) None) ∷
+    done (date None None (Some 31) None) ∷
+    done (date (Some 2016) None None (Some 366)) ∷
+    done (date None None None (Some 366)) ∷
+    done (date (Some 2016) (Some 12) (Some 1) None) ∷
+    done (date None (Some 12) (Some 1) None) ∷
+    done (date (Some 2016) (Some 1) (Some 1) None) ∷
+    done (date None (Some 2) (Some 29) None) ∷ []
 unfolding calendars want_of formed alone calendar_as shape_of days months good_day good_clock is_date is_ordinal month_length kind row
 calendars_want = refl
 
@@ -44,26 +43,26 @@ calendars_want = refl
 times : List (List ℕ)
 times = bytes "12" ∷ bytes "12:34" ∷ bytes "12:34:56" ∷ bytes "12:34:56.5" ∷ bytes ":34" ∷ bytes ":34:56" ∷ bytes ":34:56.5" ∷ bytes "::56" ∷ bytes "::56.5" ∷ bytes "::.5" ∷ bytes "::.000000000001" ∷ bytes "12Z" ∷ bytes "::.5Z" ∷ bytes "23:59:60" ∷ bytes ":59:60" ∷ bytes "::60" ∷ []
 
-abbrev time : Want → Want → Want → ℕ → Wants
-time h i s k = wants Free Free Free Free h i s k
+abbrev time : Option ℕ → Option ℕ → Option ℕ → ℕ → Wants
+time h i s k = wants None None None None h i s k
 
 times_want : map want_of times ≡
-    done (time (Is 12) (Is 0) (Is 0) 0) ∷
-    done (time (Is 12) (Is 34) (Is 0) 0) ∷
-    done (time (Is 12) (Is 34) (Is 56) 0) ∷
-    done (time (Is 12) (Is 34) (Is 56) 2048000000000000) ∷
-    done (time Free (Is 34) (Is 0) 0) ∷
-    done (time Free (Is 34) (Is 56) 0) ∷
-    done (time Free (Is 34) (Is 56) 2048000000000000) ∷
-    done (time Free Free (Is 56) 0) ∷
-    done (time Free Free (Is 56) 2048000000000000) ∷
-    done (time Free Free Free 2048000000000000) ∷
-    done (time Free Free Free 4096) ∷
-    done (time (Is 12) (Is 0) (Is 0) 0) ∷
-    done (time Free Free Free 2048000000000000) ∷
-    done (time (Is 23) (Is 59) (Is 60) 0) ∷
-    done (time Free (Is 59) (Is 60) 0) ∷
-    done (time Free Free (Is 60) 0) ∷ []
+    done (time (Some 12) (Some 0) (Some 0) 0) ∷
+    done (time (Some 12) (Some 34) (Some 0) 0) ∷
+    done (time (Some 12) (Some 34) (Some 56) 0) ∷
+    done (time (Some 12) (Some 34) (Some 56) 2048000000000000) ∷
+    done (time None (Some 34) (Some 0) 0) ∷
+    done (time None (Some 34) (Some 56) 0) ∷
+    done (time None (Some 34) (Some 56) 2048000000000000) ∷
+    done (time None None (Some 56) 0) ∷
+    done (time None None (Some 56) 2048000000000000) ∷
+    done (time None None None 2048000000000000) ∷
+    done (time None None None 4096) ∷
+    done (time (Some 12) (Some 0) (Some 0) 0) ∷
+    done (time None None None 2048000000000000) ∷
+    done (time (Some 23) (Some 59) (Some 60) 0) ∷
+    done (time None (Some 59) (Some 60) 0) ∷
+    done (time None None (Some 60) 0) ∷ []
 unfolding times want_of formed alone time_in unzoned clock_as shape_of days months hours minutes good_day good_clock is_date is_ordinal month_length kind row
 times_want = refl
 
@@ -72,11 +71,11 @@ both : List (List ℕ)
 both = bytes "-366T23:59:60" ∷ bytes "2016-12-31T23:59:60.5Z" ∷ bytes "2016-366T12" ∷ bytes "-12-31T12:34Z" ∷ bytes "--31T12:34:56" ∷ []
 
 both_want : map want_of both ≡
-    done (wants Free Free Free (Is 366) (Is 23) (Is 59) (Is 60) 0) ∷
-    done (wants (Is 2016) (Is 12) (Is 31) Free (Is 23) (Is 59) (Is 60) 2048000000000000) ∷
-    done (wants (Is 2016) Free Free (Is 366) (Is 12) (Is 0) (Is 0) 0) ∷
-    done (wants Free (Is 12) (Is 31) Free (Is 12) (Is 34) (Is 0) 0) ∷
-    done (wants Free Free (Is 31) Free (Is 12) (Is 34) (Is 56) 0) ∷ []
+    done (wants None None None (Some 366) (Some 23) (Some 59) (Some 60) 0) ∷
+    done (wants (Some 2016) (Some 12) (Some 31) None (Some 23) (Some 59) (Some 60) 2048000000000000) ∷
+    done (wants (Some 2016) None None (Some 366) (Some 12) (Some 0) (Some 0) 0) ∷
+    done (wants None (Some 12) (Some 31) None (Some 12) (Some 34) (Some 0) 0) ∷
+    done (wants None None (Some 31) None (Some 12) (Some 34) (Some 56) 0) ∷ []
 unfolding both want_of formed joined time_in unzoned calendar_as clock_as shape_of days hours good_day good_clock is_date is_ordinal month_length kind row
 both_want = refl
 

@@ -4,7 +4,6 @@ pub mod Times
 pub mod Goods
 pub mod Dates
 pub mod Ladder
-pub mod Once
 pub mod Known
 pub mod Subfields
 pub mod Fractions

@@ -6,38 +6,25 @@ use Prim.Native.Nat.{ℕ, zero, suc, ◌+◌, ◌-◌, ◌<◌, ◌≤◌}
 use native.Mathlib.Nat.{not-suc-le-zero, le_of_suc-le-suc}
 use native.Mathlib.Numerals.{add-one}
 use native.Mathlib.Omega.{arith}
-use borrow.Author.Tests.{eqb-true}
+use borrow.Author.Tests.{eqb-true, eq-eqb, ne_eqb}
 use lib.Dec.{eqb}
-use lib.ListN.{length, get_or, take, drop, length-drop, drop_of_length-le}
-use lib.Seq.{take_all, drop-cons}
+use lib.ListN.{length, take, drop, length-drop}
+use lib.Seq.{take_all}
 use Rattle.base.specs.Outcome.{done}
 use Rattle.base.proofs.Ladders.{never, done_is}
 use Rattle.octets.specs.Places.{digit_good}
-use Rattle.shape.specs.Shapes.{shape_of, same, fits}
-use Rattle.shape.proofs.Tests.{same_is}
-use Rattle.shape.proofs.Shapes.{zeros, kind_sep}
+use Rattle.shape.specs.Shapes.{kind_of, shape_of, fits}
+use Rattle.std.proofs.Common.{Option}
+use Rattle.std.specs.Option.{MatchOption, unwrap_or}
+use Rattle.std.specs.List.{AllWithin, HoldsAt, list_all, zip}
+use Rattle.std.proofs.lemmas.Iterator.{index_from_first}
+use Rattle.shape.proofs.Tests.{same_is, same_size}
+use Rattle.shape.proofs.Shapes.{shape_length, zeros, kind_sep}
 use Rattle.shape.proofs.Pieces.{Piece, spell, outline, clean, outlined}
 use Rattle.tag.specs.Forms.{Form, Forms, find}
 use Rattle.tag.specs.Tags.{until}
 
 -- ---- until
--- where c first stands, counted from i on
-abbrev pub UntilFrom : ℕ → List ℕ → ℕ → Type 0
-UntilFrom c s i = until c s ≡ i + until c (drop i s)
-
-module _ (c : ℕ) (s : List ℕ) (i : ℕ) where
-  until_turn : i < length s → until c (drop i s) ≡ cond (eqb (get_or s i 0) c) 0 (suc (until c (drop (i + 1) s)))
-  until_turn h = rw add-one (ap (until c) (drop-cons s i 0 h))
-
-  pub until_here : i < length s → eqb (get_or s i 0) c ≡ true → UntilFrom c s i → i ≡ until c s
-  until_here h e k = omega (arith, k, rw e at (until_turn h))
-
-  pub until_next : i < length s → eqb (get_or s i 0) c ≡ false → UntilFrom c s i → UntilFrom c s (i + 1)
-  until_next h e k = omega (arith, k, rw e at (until_turn h))
-
-  pub until_end : length s ≤ i → UntilFrom c s i → i ≡ until c s
-  until_end h k = omega (arith, k, ap (until c) (drop_of_length-le s h))
-
 -- of a shape
 pub until_shape : (c : ℕ) → digit_good c ≡ false → (s : List ℕ) → until c (shape_of s) ≡ until c s
 unfolding shape_of
@@ -55,6 +42,13 @@ until_le c (b ∷ s) = go (eqb b c) (until_le c s)
     go : (t : Bool) → until c s ≤ length s → cond t 0 (suc (until c s)) ≤ suc (length s)
     go true r = omega arith
     go false r = omega arith
+
+-- what `position` tells of it
+pub until_first : (c : ℕ) (s : List ℕ) (r : Option ℕ) → MatchOption r (AllWithin (λ b. b ≡ c → ⊥) s 0 (length s)) (λ i. (i < length s) × HoldsAt (λ b. b ≡ c) s i × AllWithin (λ b. b ≡ c → ⊥) s 0 i)
+    → (unwrap_or r (length s) ≡ until c s) × (unwrap_or r (length s) ≤ length s)
+until_first c s r h =
+    let e = index_from_first (until c) (λ b. b ≡ c) (λ b. b ≡ c → ⊥) refl (λ b t k. rw (eq-eqb b c k)) (λ b t k. rw (ne_eqb b c k, add-one)) s r h in
+    (sym e, omega (arith, e, until_le c s))
 
 -- a text without the character, and what follows
 pub until_past : (c : ℕ) (a b : List ℕ) → until c a ≡ length a → until c (a ++ b) ≡ length a + until c b
@@ -79,23 +73,19 @@ until_cut c (b ∷ s) h = go (eqb b c) refl h (until_cut c s)
 pub rest_is : (s : List ℕ) (p : ℕ) → take (length s - p) (drop p s) ≡ drop p s
 rest_is s p = take_all (length s - p) (drop p s) (omega (arith, length-drop p s))
 
--- ---- two shapes, compared
--- two texts are the same exactly if they are so from j on
-abbrev pub SameFrom : List ℕ → List ℕ → ℕ → Type 0
-SameFrom x y j = same x y ≡ same (drop j x) (drop j y)
+-- ---- a shape and a text, compared pair by pair
+pub pairs_same : (x s : List ℕ) → length x ≡ length s → list_all (λ (p : ℕ × ℕ). eqb p.0 (kind_of p.1)) (zip x s) ≡ fits x s
+unfolding shape_of
+pairs_same [] [] h = refl
+pairs_same [] (b ∷ s) h = absurd (omega arith)
+pairs_same (a ∷ x) [] h = absurd (omega arith)
+pairs_same (a ∷ x) (b ∷ s) h = ap (λ (t : Bool). eqb a (kind_of b) && t) (pairs_same x s (omega arith))
 
-module _ (x y : List ℕ) (j : ℕ) where
-  same_turn : j < length x → j < length y → same (drop j x) (drop j y) ≡ eqb (get_or x j 0) (get_or y j 0) && same (drop (j + 1) x) (drop (j + 1) y)
-  same_turn h k = rw add-one (ap (λ (z : List ℕ). same z (drop j y)) (drop-cons x j 0 h) ∙ ap (same (get_or x j 0 ∷ drop (suc j) x)) (drop-cons y j 0 k))
+pub pairs_fit : (x s : List ℕ) → length x ≡ length s → (r : Bool) → r ≡ list_all (λ (p : ℕ × ℕ). eqb p.0 (kind_of p.1)) (zip x s) → r ≡ fits x s
+pairs_fit x s h r e = e ∙ pairs_same x s h
 
-  pub same_other : j < length x → j < length y → eqb (get_or x j 0) (get_or y j 0) ≡ false → SameFrom x y j → false ≡ same x y
-  same_other h k e p = sym (p ∙ rw e at (same_turn h k))
-
-  pub same_next : j < length x → j < length y → eqb (get_or x j 0) (get_or y j 0) ≡ true → SameFrom x y j → SameFrom x y (j + 1)
-  same_next h k e p = p ∙ rw e at (same_turn h k)
-
-  pub same_end : length x ≤ j → length y ≤ j → SameFrom x y j → true ≡ same x y
-  same_end h k p = sym (p ∙ rw (drop_of_length-le x h, drop_of_length-le y k))
+pub other_size : (x s : List ℕ) → (length x ≡ length s → ⊥) → eqb (length x) (length s) ≡ fits x s
+other_size x s f = ne_eqb _ _ f ∙ same_size x (shape_of s) (λ e. f (e ∙ shape_length s))
 
 -- ---- find
 module _ (s : List ℕ) (f : Form) where

@@ -36,7 +36,7 @@ unfolding hours minutes shape_of time_in unzoned
 no_time k e = never 4 k e
 
 tag_by : (s : List ℕ) (t : Wants) → 1 ≤ length s → formed s ≡ done t → good_day t.calendar ≡ true → good_clock t.clock ≡ true → want_of s ≡ done t
-tag_by s t l e g h = sym (tag_done s l t e (rw (g, h)))
+tag_by s t l e g h = sym (tag_done s l t e g h)
 
 -- no T: a calendar alone, or a time alone
 without : (s : List ℕ) → until 84 s ≡ length s → formed s ≡ alone s

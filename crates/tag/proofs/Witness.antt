@@ -7,6 +7,7 @@ use Prim.Native.Nat.{ℕ, ◌+◌, ◌≤◌}
 use lib.Dec.{leb, ltb}
 use lib.ListN.{length, take, drop}
 use borrow.Author.Tests.{eq-eqb, le-leb}
+use Rattle.std.specs.Option.{unwrap_or}
 use Rattle.base.specs.Outcome.{Outcome, done, refused, need, and_then, given}
 use Rattle.base.proofs.Ladders.{never, refused_is, need_yes}
 use Rattle.base.proofs.Bools.{and_true}
@@ -16,45 +17,44 @@ use Rattle.calendar.specs.Gregorian.{day_index, day_of_year}
 use Rattle.calendar.proofs.Dates.{good_date, good_ordinal, ordinal_on_index, date_of_date, ordinal_of_date, index_le}
 use Rattle.clock.specs.Clock.{second_of_day}
 use Rattle.moment.specs.Decimal.{ticks_of}
-use Rattle.seek.specs.declared.Want.{Want}
-use Rattle.seek.specs.declared.Want.TheVariants.{Free, Is}
 use Rattle.seek.specs.declared.Calendar.{Calendar}
 use Rattle.seek.specs.declared.Wants.{Wants}
 use Rattle.seek.specs.Naming.{may, day_fits, clock_fits}
 use Rattle.shape.specs.Shapes.{fits}
 use Rattle.tag.specs.Forms.{Place, Form, Forms, days, months, hours, minutes, find}
-use Rattle.tag.specs.Tags.{until, is_free, is_lowest, midnight, calendar_as, clock_as, unzoned, time_in, daytime, fraction_as, tag, alone, alone_by, any_day, joined, formed, or_else, good_day, good_day_by, good_clock, good_tag, want_of}
+use Rattle.tag.specs.Tags.{until, is_free, is_lowest, midnight, calendar_as, clock_as, unzoned, time_in, daytime, fraction_as, tag, alone, alone_by, any_day, joined, formed, good_day, good_day_by, good_clock, good_tag, want_of}
 use Rattle.tag.proofs.Scans.{find_each}
 use Rattle.tag.proofs.Completed.{Parts, day, clock, joint}
+use Rattle.std.specs.Prelude.{Option, Some, None}
 
 -- ---- a day
 abbrev pub SomeDay : Calendar → Type 0
 SomeDay c = (n : ℕ) × (n ≤ 3652058) × (day_fits c n ≡ true)
 
-may_else : (w : Want) (d : ℕ) → may w (or_else w d) ≡ true
-may_else Free d = refl
-may_else (Is v) d = eq-eqb v v refl
+may_else : (w : Option ℕ) (d : ℕ) → may w (unwrap_or w d) ≡ true
+may_else None d = refl
+may_else (Some v) d = eq-eqb v v refl
 
 -- what is wanted of the day of the year is not wanted of the month and the day
 abbrev Either : Calendar → Type 0
-Either c = (c.ordinal ≡ Free) ⊎ ((c.month ≡ Free) × (c.day ≡ Free))
+Either c = (c.ordinal ≡ None) ⊎ ((c.month ≡ None) × (c.day ≡ None))
 
-dated_day : (c : Calendar) → c.ordinal ≡ Free → good_day_by c Free ≡ true → SomeDay c
+dated_day : (c : Calendar) → c.ordinal ≡ None → good_day_by c None ≡ true → SomeDay c
 unfolding day_fits
 dated_day c i e =
-    let y = or_else c.year 2000 in
-    let m = or_else c.month 1 in
-    let d = or_else c.day 1 in
+    let y = unwrap_or c.year 2000 in
+    let m = unwrap_or c.month 1 in
+    let d = unwrap_or c.day 1 in
     let g = good_date y m d e in
     let o = ordinal_of_date y m d g in
     let n = day_index y (day_of_year y m d) in
     let a = ordinal_on_index y (day_of_year y m d) o in
     (n, index_le y (day_of_year y m d) o, rw (a, i, date_of_date y m d g, may_else c.year 2000, may_else c.month 1, may_else c.day 1))
 
-ordinal_day_lem : (c : Calendar) (o : ℕ) → c.ordinal ≡ Is o → c.month ≡ Free → c.day ≡ Free → good_day_by c (Is o) ≡ true → SomeDay c
+ordinal_day_lem : (c : Calendar) (o : ℕ) → c.ordinal ≡ Some o → c.month ≡ None → c.day ≡ None → good_day_by c (Some o) ≡ true → SomeDay c
 unfolding day_fits
 ordinal_day_lem c o i p q e =
-    let y = or_else c.year 2000 in
+    let y = unwrap_or c.year 2000 in
     let g = good_ordinal y o e in
     (day_index y o, index_le y o g, rw (ordinal_on_index y o g, i, p, q, may_else c.year 2000, eq-eqb o o refl))
 
@@ -62,11 +62,11 @@ some_day : (c : Calendar) → Either c → good_day c ≡ true → SomeDay c
 unfolding good_day
 some_day c h e = go c.ordinal refl e
   where
-    go : (w : Want) → c.ordinal ≡ w → good_day_by c w ≡ true → SomeDay c
-    go Free i e = dated_day c i e
-    go (Is o) i e =
-        ⊎_elim (λ (f : c.ordinal ≡ Free). dated_day c f (subst (λ (w : Want). good_day_by c w ≡ true) (sym i ∙ f) e))
-        (λ (f : (c.month ≡ Free) × (c.day ≡ Free)). ordinal_day_lem c o i f.0 f.1 e) h
+    go : (w : Option ℕ) → c.ordinal ≡ w → good_day_by c w ≡ true → SomeDay c
+    go None i e = dated_day c i e
+    go (Some o) i e =
+        ⊎_elim (λ (f : c.ordinal ≡ None). dated_day c f (subst (λ (w : Option ℕ). good_day_by c w ≡ true) (sym i ∙ f) e))
+        (λ (f : (c.month ≡ None) × (c.day ≡ None)). ordinal_day_lem c o i f.0 f.1 e) h
 
 either : (s : List ℕ) (f : Form) → find (days ++ months) s ≡ done f → Either (calendar_as s f)
 unfolding days months calendar_as
@@ -90,9 +90,9 @@ pub second_exists : (t : Wants) → good_tag t ≡ true → (x : ℕ) × (x ≤ 
 unfolding good_clock clock_fits
 second_exists t g =
     let k = t.clock in
-    let h = or_else k.hour 23 in
-    let m = or_else k.minute 59 in
-    let s = or_else k.second 0 in
+    let h = unwrap_or k.hour 23 in
+    let m = unwrap_or k.minute 59 in
+    let s = unwrap_or k.second 0 in
     let w = shows h m s (and_true (good_day t.calendar) _ g).1 in
     (second_of_day h m s, w.low, rw (w.hour, w.minute, w.second, may_else k.hour 23, may_else k.minute 59, may_else k.second 0))
 

@@ -1,15 +1,14 @@
 -- The fields that stand in a shortened ASCII tag, each with its rule (document 02, request 3). A field begins at its first digit, and not at the separator before it.
-use Rattle.std.specs.Prelude.{Bool, cond, List, [], ◌∷◌, ◌++◌, ℕ, ◌+◌, ltb, length, take, drop}
+use Rattle.std.specs.Prelude.{Bool, cond, List, [], ◌∷◌, ◌++◌, ℕ, ◌+◌, ltb, length, take, drop, Option, Some, None}
+use Rattle.std.specs.Option.{unwrap_or}
 use Rattle.base.specs.Outcome.{Outcome, done, refused}
 use Rattle.calendar.specs.Gregorian.{is_year}
 use Rattle.field.specs.Fields.{Field, field}
 use Rattle.field.specs.Rules.{is_month, is_day, is_day_of_year, is_hour, is_minute, is_second}
-use Rattle.seek.specs.declared.Want.{Want}
-use Rattle.seek.specs.declared.Want.TheVariants.{Free, Is}
 use Rattle.seek.specs.declared.Calendar.{Calendar}
 use Rattle.seek.specs.declared.Clock.{Clock}
 use Rattle.tag.specs.Forms.{Place, free, lowest, at, Form, Forms, days, months, hours, minutes, find}
-use Rattle.tag.specs.Tags.{calendar_as, clock_as, until, or_else}
+use Rattle.tag.specs.Tags.{calendar_as, clock_as, until}
 
 -- a field that stands in the text, which begins `from` bytes after the input, and those behind it: one that was dropped is none
 abbrev pub there : ℕ → Place → Bool → List Field → List Field
@@ -18,13 +17,13 @@ there from lowest b fs = fs
 there from (at i) b fs = field (from + i) b ∷ fs
 
 -- year, month and day, or year and day of the year. "Month and day that no year has, as -02-30, are 4; so is a full date its own year lacks": without its year a date is judged in a leap year, and without its month in January
-abbrev pub calendar_by : Form → Calendar → Want → List Field
-calendar_by f c Free =
-    let y = or_else c.year 2000 in
-    let m = or_else c.month 1 in
-    there 0 f.first (is_year y) (there 0 f.second (is_month m) (there 0 f.third (is_day y m (or_else c.day 1)) []))
-calendar_by f c (Is o) =
-    let y = or_else c.year 2000 in
+abbrev pub calendar_by : Form → Calendar → Option ℕ → List Field
+calendar_by f c None =
+    let y = unwrap_or c.year 2000 in
+    let m = unwrap_or c.month 1 in
+    there 0 f.first (is_year y) (there 0 f.second (is_month m) (there 0 f.third (is_day y m (unwrap_or c.day 1)) []))
+calendar_by f c (Some o) =
+    let y = unwrap_or c.year 2000 in
     there 0 f.first (is_year y) (there 0 f.fourth (is_day_of_year y o) [])
 
 unfoldable pub calendar_fields : List ℕ → Form → List Field
@@ -33,9 +32,9 @@ calendar_fields s f = calendar_by f (calendar_as s f) (calendar_as s f).ordinal
 -- hour, minute and second: "A present second 60 needs a present minute to be 59 and a present hour 23"
 abbrev pub clock_by : ℕ → Form → Clock → List Field
 clock_by from f k =
-    let h = or_else k.hour 23 in
-    let m = or_else k.minute 59 in
-    there from f.first (is_hour h) (there from f.second (is_minute m) (there from f.third (is_second h m (or_else k.second 0)) []))
+    let h = unwrap_or k.hour 23 in
+    let m = unwrap_or k.minute 59 in
+    there from f.first (is_hour h) (there from f.second (is_minute m) (there from f.third (is_second h m (unwrap_or k.second 0)) []))
 
 unfoldable pub clock_fields : ℕ → List ℕ → Form → List Field
 clock_fields from s f = clock_by from f (clock_as s f)

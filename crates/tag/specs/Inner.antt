@@ -1,75 +1,77 @@
--- What the private functions ask and answer: the permitted forms as one table, by rows. No promise cites these.
-use Rattle.std.specs.Prelude.{◌≡◌, true, cond, List, [], ◌∷◌, ◌++◌, ℕ, ◌+◌, ◌<◌, ltb, eqb, get_or}
-use Rattle.std.proofs.Math.Seq.{slice}
+-- What the private functions ask and answer: the permitted forms as the code has them, and what a text of one has. No promise cites these.
+use Rattle.std.specs.Prelude.{◌≡◌, Bool, true, ◌&&◌, List, map, ℕ, ◌+◌, ◌≤◌, leb, length, drop, Result, Option, Some, None}
+use Rattle.std.specs.List.{list_all}
 use Rattle.base.specs.Outcome.{Outcome, done, refused}
-use Rattle.shape.specs.Shapes.{fits}
+use Rattle.base.specs.Said.{says}
+use Rattle.base.specs.declared.Refusal.{Refusal}
+use Rattle.octets.specs.Places.{all_good, digit_good}
 use Rattle.field.specs.declared.Starts.{Starts}
-use Rattle.seek.specs.declared.Wants.{Wants}
-use Rattle.tag.specs.Forms.{Place, free, lowest, at, Form, form, Forms, days, months, hours, minutes}
+use Rattle.tag.specs.Forms.{Place, free, lowest, at, Form, form, Forms}
 use Rattle.tag.specs.Tags.{Daytime, daytime}
-use Rattle.tag.specs.declared.Part.{Part}
-use Rattle.tag.specs.declared.Part.TheVariants as P
 use Rattle.tag.specs.declared.Time.{Time}
-use Rattle.tag.specs.declared.Time.TheVariants as T
-use Rattle.tag.specs.declared.Parsed.{Parsed}
-use Rattle.tag.specs.declared.Parsed.TheVariants as Q
+use Rattle.tag.specs.declared.Place as P
+use Rattle.tag.specs.declared.Place.TheVariants as V
+use Rattle.tag.specs.declared.Form as F
 
--- ---- rows
-unfoldable pub forms : Forms
-forms = days ++ (months ++ (hours ++ minutes))
+-- ---- forms
+abbrev pub place_as : P.Place → Place
+place_as V.Free = free
+place_as V.Lowest = lowest
+place_as (V.At n) = at n
 
-abbrev pub no_form : Form
-no_form = form [] free free free free
+abbrev pub form_as : F.Form → Form
+form_as f = form f.0.now (place_as f.1) (place_as f.2) (place_as f.3) (place_as f.4)
 
-abbrev pub form_at : ℕ → Form
-form_at i = get_or forms i no_form
+abbrev pub forms_as : List F.Form → Forms
+forms_as fs = map form_as fs
 
--- the forms from one row on and before another
-abbrev pub between : ℕ → ℕ → Forms
-between from to = slice from to forms
+-- the form that was found; none is 4
+abbrev pub found : Option F.Form → Outcome Form
+found (Some f) = done (form_as f)
+found None = refused 4
 
--- a row below `to` is its form; `to` is none
-abbrev pub found_at : ℕ → ℕ → Outcome Form
-found_at to i = cond (ltb i to) (done (form_at i)) (refused 4)
+-- ---- what a text has
+-- w digits stand where a field of w digits is
+abbrev pub Digits : List ℕ → ℕ → Place → Type 0
+Digits s w free = Unit {0}
+Digits s w lowest = Unit {0}
+Digits s w (at i) = (i + w ≤ length s) × (all_good digit_good (drop i s) w ≡ true)
 
--- row i is that of a text
-pub record Row (s : List ℕ) (i : ℕ) : Type 0 where
-  pub row : i < 15
-  pub has : fits (form_at i).shape s ≡ true
+-- the digits of the fields of a calendar and of a clock
+abbrev pub HasCalendar : List ℕ → Form → Type 0
+HasCalendar s f = Digits s 4 f.first × Digits s 2 f.second × Digits s 2 f.third × Digits s 3 f.fourth
 
--- ---- places
--- where a byte says that a field is
-abbrev pub place_of : ℕ → Place
-place_of n = cond (eqb n 100) free (cond (eqb n 101) lowest (at n))
+abbrev pub HasClock : List ℕ → Form → Type 0
+HasClock s f = Digits s 2 f.first × Digits s 2 f.second × Digits s 2 f.third
 
-abbrev pub places_of : Form → List Place
-places_of f = f.first ∷ f.second ∷ f.third ∷ f.fourth ∷ []
+-- every text of a shape has its digits
+abbrev pub stands : List ℕ → ℕ → Place → Bool
+stands p w free = true
+stands p w lowest = true
+stands p w (at i) = leb (i + w) (length p) && all_good digit_good (drop i p) w
 
-abbrev pub place_in : Form → ℕ → Place
-place_in f k = get_or (places_of f) k (at 0)
+abbrev pub is_calendar : Form → Bool
+is_calendar f = stands f.shape 4 f.first && (stands f.shape 2 f.second && (stands f.shape 2 f.third && stands f.shape 3 f.fourth))
 
--- how many digits field k of row i has
-abbrev pub width_in : ℕ → ℕ → ℕ
-width_in i k = cond (ltb i 8) (get_or (4 ∷ 2 ∷ 2 ∷ 3 ∷ []) k 0) 2
+abbrev pub is_time : Form → Bool
+is_time f = stands f.shape 2 f.first && (stands f.shape 2 f.second && stands f.shape 2 f.third)
 
--- where the first three fields of a form begin, by the bytes that say where they are
-pub record Begin (f : Form) (from : ℕ) (r : Starts) : Type 0 where
-  pub first : ℕ
-  pub second : ℕ
-  pub third : ℕ
-  pub first_at : (place_of first ≡ f.first) × (r.first ≡ from + first)
-  pub second_at : (place_of second ≡ f.second) × (r.second ≡ from + second)
-  pub third_at : (place_of third ≡ f.third) × (r.third ≡ from + third)
+abbrev pub are_times : Forms → Bool
+are_times fs = list_all is_time fs
 
--- ---- answers
-abbrev pub says_part : Part → Outcome ℕ
-says_part (P.Good n) = done n
-says_part P.Bad = refused 4
+-- ---- where fields begin
+-- a number says where a field begins, if it stands in the text
+abbrev pub Begins : ℕ → Place → Type 0
+Begins n free = Unit {0}
+Begins n lowest = Unit {0}
+Begins n (at i) = n ≡ i
 
-abbrev pub says_time : Time → Outcome Daytime
-says_time (T.Good k n) = done (daytime k n)
-says_time T.Bad = refused 4
+-- where the first three fields of a form begin
+abbrev pub Begin : Form → Starts → Type 0
+Begin f r = Begins r.first f.first × Begins r.second f.second × Begins r.third f.third
 
-abbrev pub says_parsed : Parsed → Outcome Wants
-says_parsed (Q.Good t) = done t
-says_parsed Q.Bad = refused 4
+abbrev pub daytime_of : Time → Daytime
+daytime_of t = daytime t.clock t.ticks
+
+abbrev pub says_time : Result Time Refusal → Outcome Daytime
+says_time r = says daytime_of r

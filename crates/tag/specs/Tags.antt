@@ -1,27 +1,23 @@
 -- Shortened ASCII tags (document 01, "Shortened tags"): the fields that a text wants, and their ranges.
-use Rattle.std.specs.Prelude.{Bool, true, false, cond, not, ◌&&◌, List, [], ◌∷◌, ◌++◌, ℕ, suc, ◌+◌, ltb, leb, eqb, length, take, drop}
+use Rattle.std.specs.Prelude.{Bool, true, false, cond, not, ◌&&◌, List, [], ◌∷◌, ◌++◌, ℕ, suc, ◌+◌, ltb, leb, eqb, length, take, drop, Option, Some, None}
+use Rattle.std.specs.Option.{unwrap_or}
 use Rattle.base.specs.Outcome.{Outcome, done, refused, need, and_then, given}
-use Rattle.base.specs.Refusals.{number}
 use Rattle.octets.specs.Places.{decimal_of, all_good, digit_good}
 use Rattle.calendar.specs.Gregorian.{is_date, is_ordinal}
 use Rattle.clock.specs.Clock.{clock_ok}
 use Rattle.moment.specs.Decimal.{ticks_of}
 use Rattle.ascii.specs.Ascii.{number_at}
-use Rattle.seek.specs.declared.Want.{Want}
-use Rattle.seek.specs.declared.Want.TheVariants.{Free, Is}
 use Rattle.seek.specs.declared.Calendar.{Calendar}
 use Rattle.seek.specs.declared.Clock.{Clock}
 use Rattle.seek.specs.declared.Wants.{Wants}
 use Rattle.tag.specs.Forms.{Place, free, lowest, at, Form, Forms, days, months, hours, minutes, find}
-use Rattle.tag.specs.declared.TagAnswer.{TagAnswer}
-use Rattle.tag.specs.declared.TagAnswer.TheVariants as A
 
 -- ---- fields
 -- what is wanted of a field of w digits whose lowest value is given
-abbrev pub want_at : List ℕ → ℕ → ℕ → Place → Want
-want_at s w low free = Free
-want_at s w low lowest = Is low
-want_at s w low (at i) = Is (number_at s i w)
+abbrev pub want_at : List ℕ → ℕ → ℕ → Place → Option ℕ
+want_at s w low free = None
+want_at s w low lowest = Some low
+want_at s w low (at i) = Some (number_at s i w)
 
 unfoldable pub calendar_as : List ℕ → Form → Calendar
 calendar_as s f =
@@ -77,10 +73,10 @@ tag c k = record { calendar = c; clock = k.clock; ticks = k.ticks }
 
 -- "A calendar alone means 00:00:00; a time alone leaves the date free"
 abbrev pub midnight : Daytime
-midnight = daytime (record { hour = Is 0; minute = Is 0; second = Is 0 }) 0
+midnight = daytime (record { hour = Some 0; minute = Some 0; second = Some 0 }) 0
 
 abbrev pub any_day : Calendar
-any_day = record { year = Free; month = Free; day = Free; ordinal = Free }
+any_day = record { year = None; month = None; day = None; ordinal = None }
 
 abbrev pub alone_by : List ℕ → Outcome Form → Outcome Wants
 alone_by s (done f) = done (tag (calendar_as s f) midnight)
@@ -97,21 +93,17 @@ unfoldable pub formed : List ℕ → Outcome Wants
 formed s = let t = until 84 s in cond (ltb t (length s)) (joined (take t s) (drop (t + 1) s)) (alone s)
 
 -- ---- ranges
-abbrev pub or_else : Want → ℕ → ℕ
-or_else Free n = n
-or_else (Is v) n = v
-
 -- "Month and day that no year has, as -02-30, are 4; so is a full date its own year lacks": 2000 is a leap year and January has 31 days, so with them stands every day that some year or some month has
-abbrev pub good_day_by : Calendar → Want → Bool
-good_day_by c Free = is_date (or_else c.year 2000) (or_else c.month 1) (or_else c.day 1)
-good_day_by c (Is o) = is_ordinal (or_else c.year 2000) o
+abbrev pub good_day_by : Calendar → Option ℕ → Bool
+good_day_by c None = is_date (unwrap_or c.year 2000) (unwrap_or c.month 1) (unwrap_or c.day 1)
+good_day_by c (Some o) = is_ordinal (unwrap_or c.year 2000) o
 
 unfoldable pub good_day : Calendar → Bool
 good_day c = good_day_by c c.ordinal
 
 -- "A present second 60 needs a present minute to be 59 and a present hour 23"
 unfoldable pub good_clock : Clock → Bool
-good_clock k = clock_ok (or_else k.hour 23) (or_else k.minute 59) (or_else k.second 0)
+good_clock k = clock_ok (unwrap_or k.hour 23) (unwrap_or k.minute 59) (unwrap_or k.second 0)
 
 abbrev pub good_tag : Wants → Bool
 good_tag t = good_day t.calendar && good_clock t.clock
@@ -119,7 +111,3 @@ good_tag t = good_day t.calendar && good_clock t.clock
 -- what a text wants: "ASCII is empty" 1; "a field .. character or length breaks its rule" 4
 unfoldable pub want_of : List ℕ → Outcome Wants
 want_of s = need (leb 1 (length s)) 1 (and_then (formed s) (λ t. need (good_tag t) 4 (done t)))
-
-abbrev pub says_tag : TagAnswer → Outcome Wants
-says_tag (A.Done t) = done t
-says_tag (A.Refused why) = refused (number why)

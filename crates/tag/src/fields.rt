@@ -1,131 +1,134 @@
 // Where the first field of a tag that breaks its rule begins.
-ghost use Rattle.std.specs.Prelude.{◌≡◌, ◌^◌, ◌≤◌, ◌<◌};
+ghost use Rattle.std.specs.Prelude.{◌≡◌, true, ◌+◌, length};
 ghost use Rattle.field.specs.Fields.{first_bad};
 ghost use Rattle.tag.specs.Fields.{fields_of, joint_fields, alone_fields, calendar_fields, time_fields, head_fields, clock_fields};
-ghost use Rattle.tag.specs.Inner.{form_at, between, Row, Begin};
+ghost use Rattle.tag.specs.Inner.{place_as, form_as, forms_as, are_times, HasCalendar, HasClock, Begins, Begin};
 
-use field::{Place, Starts};
-use seek::Want;
+use super::{
+    Form, JANUARY, LAST_HOUR, LAST_MINUTE, LEAP_YEAR, Place, all_calendars, all_times, days,
+    form_of, hours, until,
+};
+use field::Starts;
 
 // In a text that has no permitted form there is none.
-pub fn bad_field(s: &[u8]) -> Place
+#[tactic(auto, using(crate::proofs::Standing::fields_parts, crate::proofs::Standing::fields_alone))]
+pub fn bad_field(s: &[u8]) -> Option<usize>
     ensures { result ≡ first_bad (fields_of s.now) }
 {
-    let len = s.len();
-    let t = super::until(s, 84);
-    if t < len {
-        let from = t + 1;
-        return in_joined(&s[..t], &s[from..], from);
+    let t = until(s, b'T');
+    if t < s.len() {
+        return in_joined(&s[..t], &s[t + 1..]);
     }
     in_alone(s)
 }
 
-// In a calendar, or else in the time, which begins at `from`.
-fn in_joined(c: &[u8], k: &[u8], from: usize) -> Place
-    requires { from ≤ 2 ^ 63 }
-    ensures { result ≡ first_bad (joint_fields from c.now k.now) }
+// In a calendar, or else in the time behind its T.
+#[tactic(auto, using(crate::proofs::Standing::joint_none, crate::proofs::Standing::joint_day, crate::proofs::Standing::joint_good, crate::proofs::Standing::joint_time, crate::proofs::Standing::time_low, crate::proofs::Rows::has_day, crate::proofs::Rows::hours_stand))]
+fn in_joined(c: &[u8], k: &[u8]) -> Option<usize>
+    ensures { result ≡ first_bad (joint_fields (length c.now + 1) c.now k.now) }
 {
-    let i = super::form_of(c, 0, 5);
-    if 5 <= i {
-        return Place::Nowhere;
+    let form = form_of(days(), c)?;
+    if let Some(place) = in_calendar(c, form) {
+        return Some(place);
     }
-    let first = in_calendar(c, i);
-    match first {
-        Place::At(n) => Place::At(n),
-        Place::Nowhere => in_time(k, 11, from),
-    }
+    let place = in_time(k, hours())?;
+    Some(c.len() + 1 + place)
 }
 
 // In a calendar, or in a time.
-fn in_alone(s: &[u8]) -> Place
+#[tactic(auto, using(crate::proofs::Standing::alone_calendar, crate::proofs::Standing::alone_time, crate::proofs::Rows::has_calendar, crate::proofs::Rows::times_stand))]
+fn in_alone(s: &[u8]) -> Option<usize>
     ensures { result ≡ first_bad (alone_fields s.now) }
 {
-    let i = super::form_of(s, 0, 8);
-    if i < 8 {
-        return in_calendar(s, i);
+    match form_of(all_calendars(), s) {
+        Some(form) => in_calendar(s, form),
+        None => in_time(s, all_times()),
     }
-    in_time(s, 15, 0)
 }
 
-// In a calendar of row i.
-fn in_calendar(s: &[u8], i: usize) -> Place
-    requires { (i < 8) × Row s.now i }
-    ensures { result ≡ first_bad (calendar_fields s.now (form_at i)) }
+// In a calendar of a form.
+#[tactic(auto, using(crate::proofs::Standing::date_told, crate::proofs::Standing::ordinal_told))]
+fn in_calendar(s: &[u8], form: Form) -> Option<usize>
+    requires { HasCalendar s.now (form_as form) }
+    ensures { result ≡ first_bad (calendar_fields s.now (form_as form)) }
 {
-    let c = super::calendar_as(s, i);
-    let year = c.year;
-    let month = c.month;
-    let day = c.day;
-    let ordinal = c.ordinal;
-    let y = super::or_else(year, 2000);
-    match ordinal {
-        Want::Is(o) => {
+    let c = form.calendar(s);
+    let year = c.year.unwrap_or(LEAP_YEAR);
+    match c.ordinal {
+        Some(day) => {
+            let Form(_, first, _, _, fourth) = form;
             let at = Starts {
-                first: super::place(i, 0) as usize,
-                second: super::place(i, 3) as usize,
+                first: first.start(),
+                second: fourth.start(),
                 third: 0,
             };
-            field::in_ordinal(at, y, o)
+            field::in_ordinal(at, year, day)
         }
-        Want::Free => {
-            let m = super::or_else(month, 1);
-            let d = super::or_else(day, 1);
-            let at = starts(i, 0);
-            field::in_date(at, y, m, d)
-        }
+        None => field::in_date(
+            form.starts(),
+            year,
+            c.month.unwrap_or(JANUARY),
+            c.day.unwrap_or(1),
+        ),
     }
 }
 
-// In a time whose form is a row from 8 on and before `to`, up to its period or Z.
-fn in_time(s: &[u8], to: usize, from: usize) -> Place
-    requires { (8 ≤ to) × (to ≤ 15) × (from ≤ 2 ^ 63) }
-    ensures { result ≡ first_bad (time_fields (between 8 to) from s.now) }
+// In a time of one of the forms, up to its period or Z.
+#[tactic(auto, using(crate::proofs::Standing::time_head))]
+fn in_time(s: &[u8], forms: &[Form]) -> Option<usize>
+    requires { are_times (forms_as forms.now) ≡ true }
+    ensures { result ≡ first_bad (time_fields (forms_as forms.now) 0 s.now) }
 {
-    let e = super::until(s, 90);
-    in_head(&s[..e], to, from)
+    in_head(&s[..until(s, b'Z')], forms)
 }
 
 // The same without Z and a fraction.
-fn in_head(s: &[u8], to: usize, from: usize) -> Place
-    requires { (8 ≤ to) × (to ≤ 15) × (from ≤ 2 ^ 63) }
-    ensures { result ≡ first_bad (head_fields (between 8 to) from s.now) }
+#[tactic(auto, using(crate::proofs::Standing::head_none, crate::proofs::Standing::head_form, crate::proofs::Rows::has_clock))]
+fn in_head(s: &[u8], forms: &[Form]) -> Option<usize>
+    requires { are_times (forms_as forms.now) ≡ true }
+    ensures { result ≡ first_bad (head_fields (forms_as forms.now) 0 s.now) }
 {
-    let p = super::until(s, 46);
-    let head = &s[..p];
-    let i = super::form_of(head, 8, to);
-    if to <= i {
-        return Place::Nowhere;
+    let head = &s[..until(s, b'.')];
+    in_clock(head, form_of(forms, head)?)
+}
+
+// In a time of a form.
+#[tactic(auto, using(crate::proofs::Standing::clock_told_lem))]
+fn in_clock(s: &[u8], form: Form) -> Option<usize>
+    requires { HasClock s.now (form_as form) }
+    ensures { result ≡ first_bad (clock_fields 0 s.now (form_as form)) }
+{
+    let k = form.clock(s);
+    field::in_clock(
+        form.starts(),
+        k.hour.unwrap_or(LAST_HOUR),
+        k.minute.unwrap_or(LAST_MINUTE),
+        k.second.unwrap_or(0),
+    )
+}
+
+impl Place {
+    // Where the field begins; what is said of one that was dropped does not matter.
+    fn start(self) -> usize
+        ensures { Begins result (place_as self) }
+    {
+        match self {
+            Place::At(at) => usize::from(at),
+            _ => 0,
+        }
     }
-    in_clock(head, i, from)
 }
 
-// In a time of row i.
-fn in_clock(s: &[u8], i: usize, from: usize) -> Place
-    requires { (8 ≤ i) × Row s.now i × (from ≤ 2 ^ 63) }
-    ensures { result ≡ first_bad (clock_fields from s.now (form_at i)) }
-{
-    let k = super::clock_as(s, i);
-    let hour = k.hour;
-    let minute = k.minute;
-    let second = k.second;
-    let h = super::or_else(hour, 23);
-    let m = super::or_else(minute, 59);
-    let x = super::or_else(second, 0);
-    let at = starts(i, from);
-    field::in_clock(at, h, m, x)
-}
-
-// Where the first three fields of row i begin; what stands there for one that was dropped does not matter.
-fn starts(i: usize, from: usize) -> Starts
-    requires { (i < 15) × (from ≤ 2 ^ 63) }
-    ensures { Begin (form_at i) from result }
-{
-    let first = super::place(i, 0) as usize;
-    let second = super::place(i, 1) as usize;
-    let third = super::place(i, 2) as usize;
-    Starts {
-        first: from + first,
-        second: from + second,
-        third: from + third,
+impl Form {
+    // Where the first three fields begin.
+    fn starts(self) -> Starts
+        ensures { Begin (form_as self) result }
+    {
+        let Form(_, first, second, third, _) = self;
+        Starts {
+            first: first.start(),
+            second: second.start(),
+            third: third.start(),
+        }
     }
 }

@@ -3,159 +3,112 @@
 // Standard input is binary codes end to end, each behind its P octet.
 #![tactic(auto)]
 
-ghost use Rattle.std.specs.Io.{ReadsAtMost};
-
-use codes::ScanAnswer;
-use codes::setting::Setting;
-use octets::Written;
+use base::Refusal;
+use codes::Decoded;
+use codes::setting::{DEFAULT, Setting};
 use pfield::{PField, Preamble};
-use scale::{Record, RecordAnswer, Span, SpanAnswer};
+use scale::{Record, Seconds, Span};
 use std::io;
-use std::io::Read;
+use std::io::{Cursor, Read};
+
+// So many bytes of the input are read at most.
+const INPUT: usize = 4096;
+
+// CDS from 1958 on behind its P octet.
+const DAYS: Setting = Setting::Binary {
+    p: PField { octet: 64 },
+    epoch: 0,
+    front: true,
+};
 
 fn main(rt: HostRuntime) -> io::Result<()> {
-    make_record(&rt, -2199023255552, 0)?;
-    make_record(&rt, 2199023255552, 0)?;
-    make_record(&rt, 0, Record::TICKS)?;
-    make_span(&rt, -4398046511104, Record::TICKS - 1)?;
-    make_span(&rt, 4398046511104, 0)?;
-    let mut buf = [0u8; 4096];
-    let n = read_full(&mut rt.stdin(), &mut buf)?;
-    run(&rt, &buf[..n])
-}
-
-// Reads until the buffer is full or the input ends, and answers how many bytes it put at the start of it.
-fn read_full<R: Read>(input: &mut R, buf: &mut [u8]) -> io::Result<usize>
-    ensures { ReadsAtMost result buf.new }
-{
-    let mut done: usize = 0;
-    while done < buf.len() {
-        let n = input.read(&mut buf[done..])?;
-        if n == 0 {
-            break;
-        }
-        done += n;
-    }
-    Ok(done)
+    tell_made(&rt, "record", Record::new(-2199023255552, 0))?;
+    tell_made(&rt, "record", Record::new(2199023255552, 0))?;
+    tell_made(&rt, "record", Record::new(0, Record::TICKS))?;
+    tell_made(&rt, "span", Span::new(-4398046511104, Record::TICKS - 1))?;
+    tell_made(&rt, "span", Span::new(4398046511104, 0))?;
+    let mut input = Cursor::new([0u8; INPUT]);
+    io::copy(&mut rt.stdin().take(INPUT as u64), &mut input)?;
+    let n = (input.position() as usize).min(INPUT);
+    run(&rt, &input.get_ref()[..n])
 }
 
 // Each code in turn, until one is refused or none is left.
 fn run(rt: &impl Print, s: &[u8]) -> io::Result<()> {
-    let mut at: usize = 0;
-    while at < s.len() {
-        let left = step(rt, &s[at..], Preamble::Front, 0)?;
-        if s.len() - at <= left {
-            return Ok(());
+    let mut rest = s;
+    while !rest.is_empty() {
+        let taken = codes::read(rest, Preamble::Front, 0);
+        tell_read(rt, taken.answer, taken.rest.len())?;
+        if rest.len() <= taken.rest.len() {
+            break;
         }
-        at = s.len() - left;
+        rest = taken.rest;
     }
     Ok(())
 }
 
-// Reads one code, and answers how many bytes follow it.
-fn step(rt: &impl Print, s: &[u8], p: Preamble, epoch: i64) -> io::Result<usize> {
-    let taken = codes::read(s, p, epoch);
-    tell(rt, taken.answer, taken.rest)
+// A line for what was made: its ticks, or the refusal.
+fn tell_made<const LAST: i64>(
+    rt: &impl Print,
+    name: &str,
+    made: Result<Seconds<LAST>, Refusal>,
+) -> io::Result<()> {
+    print!(rt; "{name}")?;
+    match made {
+        Ok(Seconds { ticks, .. }) => print!(rt; " {ticks}")?,
+        Err(why) => put_refusal(rt, why)?,
+    }
+    println!(rt; "")
 }
 
 // A line for what was read: the number of bytes that follow, and the moment or the refusal.
-fn tell(rt: &impl Print, answer: ScanAnswer, rest: &[u8]) -> io::Result<usize> {
-    let left = rest.len();
+fn tell_read(rt: &impl Print, answer: Result<Decoded, Refusal>, left: usize) -> io::Result<()> {
     print!(rt; "{left}")?;
     match answer {
-        ScanAnswer::Refused(why) => refuse(rt, why.number())?,
-        ScanAnswer::Done(r, _) => show(rt, r)?,
+        Ok(Decoded { moment, .. }) => show(rt, moment)?,
+        Err(why) => put_refusal(rt, why)?,
     }
-    end_line(rt)?;
-    Ok(left)
+    println!(rt; "")
 }
 
 // A moment in two settings, and the moment half a second before it.
 fn show(rt: &impl Print, r: Record) -> io::Result<()> {
-    write_text(rt, r)?;
-    write_octets(rt, r)?;
-    match Span::new(-1, Record::TICKS / 2) {
-        SpanAnswer::Refused(why) => refuse(rt, why.number()),
-        SpanAnswer::Done(by) => match scale::shift(r, by) {
-            RecordAnswer::Refused(why) => refuse(rt, why.number()),
-            RecordAnswer::Done(earlier) => write_text(rt, earlier),
-        },
-    }
+    put_text(rt, Ok(r))?;
+    put_octets(rt, r)?;
+    put_text(rt, earlier(r))
 }
 
-fn write_text(rt: &impl Print, r: Record) -> io::Result<()> {
+fn earlier(r: Record) -> Result<Record, Refusal> {
+    scale::shift(r, Span::new(-1, Record::TICKS / 2)?)
+}
+
+fn put_text(rt: &impl Print, moment: Result<Record, Refusal>) -> io::Result<()> {
     let mut text = [0u8; 40];
-    match codes::setting::write(r, Setting::Ascii(codes::setting::DEFAULT), &mut text) {
-        Written::Refused(why) => refuse(rt, why.number()),
-        Written::Done(n) => put_text(rt, &text, n),
+    match moment.and_then(|r| codes::setting::write(r, Setting::Ascii(DEFAULT), &mut text)) {
+        Ok(n) => {
+            print!(rt; " ")?;
+            rt.write_all(&text[..n.min(40)])
+        }
+        Err(why) => put_refusal(rt, why),
     }
 }
 
-// CDS from 1958 on behind its P octet, in hexadecimal.
-fn write_octets(rt: &impl Print, r: Record) -> io::Result<()> {
+// In hexadecimal.
+fn put_octets(rt: &impl Print, r: Record) -> io::Result<()> {
     let mut code = [0u8; 16];
-    let setting = Setting::Binary {
-        p: PField { octet: 64 },
-        epoch: 0,
-        front: true,
-    };
-    match codes::setting::write(r, setting, &mut code) {
-        Written::Refused(why) => refuse(rt, why.number()),
-        Written::Done(n) => put_hex(rt, &code, n),
+    match codes::setting::write(r, DAYS, &mut code) {
+        Ok(n) => {
+            print!(rt; " ")?;
+            for octet in code.iter().take(n) {
+                print!(rt; "{octet:02x}")?;
+            }
+            Ok(())
+        }
+        Err(why) => put_refusal(rt, why),
     }
 }
 
-fn make_record(rt: &impl Print, sec: i64, ticks: u64) -> io::Result<()> {
-    print!(rt; "record")?;
-    match Record::new(sec, ticks) {
-        RecordAnswer::Refused(why) => refuse(rt, why.number())?,
-        RecordAnswer::Done(r) => put_number(rt, r.ticks)?,
-    }
-    end_line(rt)
-}
-
-fn make_span(rt: &impl Print, sec: i64, ticks: u64) -> io::Result<()> {
-    print!(rt; "span")?;
-    match Span::new(sec, ticks) {
-        SpanAnswer::Refused(why) => refuse(rt, why.number())?,
-        SpanAnswer::Done(s) => put_number(rt, s.ticks)?,
-    }
-    end_line(rt)
-}
-
-fn refuse(rt: &impl Print, number: u8) -> io::Result<()> {
-    print!(rt; " refused")?;
-    put_number(rt, number as u64)
-}
-
-fn put_number(rt: &impl Print, n: u64) -> io::Result<()> {
-    print!(rt; " {n}")
-}
-
-fn put_text(rt: &impl Print, text: &[u8], n: usize) -> io::Result<()> {
-    blank(rt)?;
-    if n <= text.len() {
-        rt.write_all(&text[..n])?;
-    }
-    Ok(())
-}
-
-fn put_hex(rt: &impl Print, code: &[u8], n: usize) -> io::Result<()> {
-    blank(rt)?;
-    for octet in code.iter().take(n) {
-        put_octet(rt, *octet)?;
-    }
-    Ok(())
-}
-
-fn put_octet(rt: &impl Print, octet: u8) -> io::Result<()> {
-    print!(rt; "{octet:02x}")
-}
-
-fn blank(rt: &impl Print) -> io::Result<()> {
-    print!(rt; " ")
-}
-
-fn end_line(rt: &impl Print) -> io::Result<()> {
-    println!(rt; "")
+fn put_refusal(rt: &impl Print, why: Refusal) -> io::Result<()> {
+    let number = why.number();
+    print!(rt; " refused {number}")
 }

@@ -39,10 +39,6 @@ module _ (t : Table) where
   moment_told r m e = given_done (λ u. moment u.day u.second r.ticks) (utc_of_second t r.sec) m e
 
   -- its rungs: the table's refusal stands
-  pub time_refused : (m : Moment) (n : ℕ) → second_of_utc t m.day m.second ≡ refused n → time_of t m ≡ refused n
-  unfolding time_of
-  time_refused m n e = ap (given (λ z. time z m.ticks)) e
-
   pub time_done : (m : Moment) (z : ℤ) → second_of_utc t m.day m.second ≡ done z → time_of t m ≡ done (time z m.ticks)
   unfolding time_of
   time_done m z e = ap (given (λ z. time z m.ticks)) e

@@ -4,45 +4,41 @@
 ghost use Rattle.std.specs.Prelude.{◌≡◌};
 ghost use Rattle.scale.specs.Answers.{recorded, says_record};
 ghost use Rattle.leap.specs.Builtin.{builtin};
-ghost use Rattle.moment.specs.Moment.{says_moment};
 ghost use Rattle.utc.specs.Reckoning.{time_of, moment_of, read_by};
+ghost use Rattle.base.specs.Said.{said};
 
-use leap::{SecondAnswer, UtcAnswer};
-use moment::{Moment, MomentAnswer};
-use scale::{Record, RecordAnswer};
+use base::Refusal;
+use moment::Moment;
+use scale::Record;
 
 // What a code's fields say, by the table.
-pub fn timed(a: MomentAnswer) -> RecordAnswer
-    ensures { says_record result ≡ read_by builtin (says_moment a) }
+pub fn timed(a: Result<Moment, Refusal>) -> Result<Record, Refusal>
+    ensures { says_record result ≡ read_by builtin (said a) }
 {
-    match a {
-        MomentAnswer::Refused(why) => RecordAnswer::Refused(why),
-        MomentAnswer::Done(m) => record_of(m),
-    }
+    record_of(a?)
 }
 
 // The record of a moment.
-pub fn record_of(m: Moment) -> RecordAnswer
+#[tactic(auto, unfolding(crate::specs::Reckoning::time_of))]
+pub fn record_of(m: Moment) -> Result<Record, Refusal>
     ensures { says_record result ≡ time_of builtin m }
 {
-    let ticks = m.ticks;
-    match leap::second_of_utc(m.day, m.second) {
-        SecondAnswer::Refused(why) => RecordAnswer::Refused(why),
-        SecondAnswer::Done(sec) => RecordAnswer::Done(Record { sec, ticks }),
-    }
+    let sec = leap::second_of_utc(m.day, m.second)?;
+    Ok(Record {
+        sec,
+        ticks: m.ticks,
+    })
 }
 
 // The moment of a record, whether or not its ticks are a record's.
-pub fn moment_of(r: Record) -> MomentAnswer
-    ensures { says_moment result ≡ moment_of builtin (recorded r) }
+#[tactic(auto, unfolding(crate::specs::Reckoning::moment_of))]
+pub fn moment_of(r: Record) -> Result<Moment, Refusal>
+    ensures { said result ≡ moment_of builtin (recorded r) }
 {
-    let ticks = r.ticks;
-    match leap::utc_of_second(r.sec) {
-        UtcAnswer::Refused(why) => MomentAnswer::Refused(why),
-        UtcAnswer::Done(u) => MomentAnswer::Done(Moment {
-            day: u.day,
-            second: u.second,
-            ticks,
-        }),
-    }
+    let u = leap::utc_of_second(r.sec)?;
+    Ok(Moment {
+        day: u.day,
+        second: u.second,
+        ticks: r.ticks,
+    })
 }

@@ -1,20 +1,20 @@
 -- A list written into lent memory, one element at a time: laws over any element type.
 use mathlib.Core.Bool.{Bool, true, false}
-use mathlib.Core.List.{List, [], ◌∷◌, ◌++◌, append_assoc, append-nil}
-use mathlib.Core.Path.{◌≡◌, refl, sym, ◌∙◌, ap, ap₂, subst}
-use Prim.Native.Nat.{ℕ, zero, suc, ◌+◌, ◌-◌, ◌≤◌, ◌<◌, min}
+use mathlib.Core.List.{List, [], ◌∷◌, ◌++◌, append_assoc}
+use mathlib.Core.Path.{◌≡◌, refl, sym, ◌∙◌, ap, ap₂}
+use Prim.Native.Nat.{ℕ, suc, ◌+◌, ◌≤◌, ◌<◌, min}
 use native.Mathlib.Numerals.{add-one}
 use native.Mathlib.Omega.{arith}
 use lib.Dec.{ltb}
 use lib.ListN.{length, take, drop, set, length-append, length-set, take-append-drop}
-use lib.Seq.{length-take-le, take-suc-set, drop-set-lt, drop-cons, drop-drop, append_snoc, take_at}
+use lib.Seq.{length-take-le, take-suc-set, drop-set-lt, drop-drop, take_at}
 use borrow.Author.Tests.{lt-ltb, le-ltb}
 use Rattle.base.specs.Outcome.{done, refused}
 use Rattle.base.specs.Refusals.{number}
 use Rattle.base.specs.declared.Refusal.{Refusal}
 use Rattle.base.specs.Outcome.{Outcome}
-use Rattle.window.specs.Window.{Listed, Named, listed, list_filled, Lists}
-use Rattle.window.specs.declared.Listing.TheVariants.{Done, Refused}
+use Rattle.window.specs.Window.{Named, listed, list_filled, Lists}
+use Rattle.std.specs.Prelude.{Ok, Err}
 
 module _ {A : Type 0} where
   -- n elements of all are written, and rest is what is left of it; behind them the memory is as it was
@@ -56,7 +56,7 @@ module _ {A : Type 0} where
       (sym (take_at (take n out) rest n (length-take-le n out g)) ∙ ap (take n) f.cut) f.kept)
 
   -- the room is full, and there is one more
-  pub fill_full : {all rest : List A} {n : ℕ} {entry out : List A} {left : List A} (x : A) → left ≡ x ∷ rest → length entry ≤ n → Filling all left n entry out → (k : ℕ) → Lists (done (record { ticks = k; all = all })) entry out (Done k n true)
+  pub fill_full : {all rest : List A} {n : ℕ} {entry out : List A} {left : List A} (x : A) → left ≡ x ∷ rest → length entry ≤ n → Filling all left n entry out → (k : ℕ) → Lists (done (record { ticks = k; all = all })) entry out (Ok (record { ticks = k; count = n; more = true }))
   unfolding listed
   fill_full {all} {rest} {n} {entry} {out} x e h f k =
       let l : length all ≡ n + suc (length rest) = length_cut f ∙ ap (λ (k : List A). n + length k) e in
@@ -65,7 +65,7 @@ module _ {A : Type 0} where
       record { outcome = ap₂ (λ (c : ℕ) (b : Bool). done (record { ticks = k; count = c; more = b })) (sym m) (sym t); memory = memory_is f m }
 
   -- nothing is left
-  pub fill_done : {all : List A} {n : ℕ} {entry out : List A} {left : List A} → left ≡ [] → Filling all left n entry out → (k : ℕ) → Lists (done (record { ticks = k; all = all })) entry out (Done k n false)
+  pub fill_done : {all : List A} {n : ℕ} {entry out : List A} {left : List A} → left ≡ [] → Filling all left n entry out → (k : ℕ) → Lists (done (record { ticks = k; all = all })) entry out (Ok (record { ticks = k; count = n; more = false }))
   unfolding listed
   fill_done {all} {n} {entry} {out} e f k =
       let l : length all ≡ n + 0 = length_cut f ∙ ap (λ (k : List A). n + length k) e in
@@ -74,5 +74,5 @@ module _ {A : Type 0} where
       record { outcome = ap₂ (λ (c : ℕ) (b : Bool). done (record { ticks = k; count = c; more = b })) (sym m) (sym t); memory = memory_is f m }
 
   -- refused, and nothing changed
-  pub lists_refused : (why : Refusal) (x : Outcome (Named A)) (entry : List A) → x ≡ refused (number why) → Lists x entry entry (Refused why)
+  pub lists_refused : (why : Refusal) (x : Outcome (Named A)) (entry : List A) → x ≡ refused (number why) → Lists x entry entry (Err why)
   lists_refused why x entry h = record { outcome = rw h; memory = rw h }

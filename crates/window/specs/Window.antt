@@ -1,11 +1,9 @@
 -- The moments that a naming rule names in a window, and what a lister answers of them (document 01, "Shortened tags"). A window takes its start and not its end.
-use Rattle.std.specs.Prelude.{Bool, true, false, List, [], ◌∷◌, ◌++◌, ◌≡◌, ℕ, zero, suc, ◌-◌, ◌≤◌, ◌<◌, min, length, take, drop, ltb}
+use Rattle.std.specs.Prelude.{Bool, true, false, List, [], ◌∷◌, ◌++◌, ◌≡◌, ℕ, zero, suc, ◌-◌, ◌≤◌, ◌<◌, min, length, take, drop, ltb, Result, Option, Some, None}
 use Rattle.base.specs.Outcome.{Outcome, done, refused, given}
-use Rattle.base.specs.Refusals.{number}
-use Rattle.window.specs.declared.Found.{Found}
-use Rattle.window.specs.declared.Found.TheVariants.{At, Nothing}
-use Rattle.window.specs.declared.Listing.{Listing}
-use Rattle.window.specs.declared.Listing.TheVariants as L
+use Rattle.base.specs.Said.{said}
+use Rattle.base.specs.declared.Refusal.{Refusal}
+use Rattle.window.specs.declared.Listed.{Listed}
 
 -- `up n a` is the n numbers a, a + 1, ..
 unfoldable pub up : ℕ → ℕ → List ℕ
@@ -30,23 +28,13 @@ unfoldable pub named_in : (ℕ → Bool) → ℕ → ℕ → List ℕ
 named_in p a b = filter p (range a b)
 
 -- p names nothing from a to before b
-abbrev pub None : (ℕ → Bool) → ℕ → ℕ → Type 0
-None p a b = (k : ℕ) → a ≤ k → k < b → p k ≡ false
+abbrev pub Unnamed : (ℕ → Bool) → ℕ → ℕ → Type 0
+Unnamed p a b = (k : ℕ) → a ≤ k → k < b → p k ≡ false
 
 -- the first of a list
-unfoldable pub first_of : List ℕ → Found
-first_of [] = Nothing
-first_of (x ∷ xs) = At x
-
--- the answer on paper: "that count, the number listed, "more""
-pub record Listed : Type 0 where
-  pub ticks : ℕ
-  pub count : ℕ
-  pub more : Bool
-
-abbrev pub says_listing : Listing → Outcome Listed
-says_listing (L.Done t n m) = done (record { ticks = t; count = n; more = m })
-says_listing (L.Refused why) = refused (number why)
+unfoldable pub first_of : List ℕ → Option ℕ
+first_of [] = None
+first_of (x ∷ xs) = Some x
 
 -- all that is named in a window, and the tick count that they share
 pub record Named (A : Type 0) : Type 0 where
@@ -68,6 +56,6 @@ module _ {A : Type 0} where
   leaves (refused n) entry = entry
 
   -- what a lister owes: the paper's outcome, and the lent list as it leaves it
-  pub record Lists (x : Outcome (Named A)) (entry exit : List A) (r : Listing) : Type 0 where
-    pub outcome : says_listing r ≡ given (listed entry) x
+  pub record Lists (x : Outcome (Named A)) (entry exit : List A) (r : Result Listed Refusal) : Type 0 where
+    pub outcome : said r ≡ given (listed entry) x
     pub memory : exit ≡ leaves x entry

@@ -1,23 +1,27 @@
-use mathlib.Core.Path.{◌≡◌, sym, ◌∙◌}
-use native.Mathlib.Omega.{arith}
-use borrow.Author.Rules.{rules}
-use borrow.Author.Tests.{not-true, not-false}
+use Rattle.std.proofs.Common.{◌≡◌, ◌-◌, arith, rules}
+use Rattle.std.specs.Int.{div_ceil}
+use Rattle.std.proofs.lemmas.Grind.{common_steps}
 use Rattle.base.proofs.Ladders.{need_yes, need_no}
 use Rattle.window.proofs.Room.{lists_refused}
 use Rattle.counter.specs.Counter.{list_of}
-use Rattle.counter.proofs.Laws.{good_is}
+use Rattle.counter.proofs.Laws.{Good, bad_so, good_so}
+use Rattle.counter.proofs.Onward.{all_left}
+use Rattle.counter.proofs.list.Goals.{then-not-contains-via-then-not-contains, then-not-contains-via-else-not-contains+then-max-gt-MOST}
 use Rattle.counter.proofs.list.Goals as goal
 
-pub returns-then-not-in_reach : goal.returns-then-not-in_reach
+pub returns-then-not-contains : goal.returns-then-not-contains
 unfolding list_of
-returns-then-not-in_reach c = lists_refused _ _ _ (need_no 7 _ (sym c.in_reach.ensures ∙ c.if-not-in_reach.true))
-
-pub run-requires : goal.run-requires
-run-requires c =
-    let g = good_is _ _ _ _ (sym c.in_reach.ensures ∙ c.if-not-in_reach.false) in
-    omega arith
+returns-then-not-contains c =
+    let a = c.args in
+    lists_refused _ _ _ (need_no 7 _ (bad_so a.base a.period a.from a.to (λ g. elim c.then-not-contains.branch [
+      | then-not-contains-via-then-not-contains w ↦ let h = w.if-not-contains.ensures in grind (arith, common_steps)
+      | then-not-contains-via-else-not-contains+then-max-gt-MOST w ↦ omega arith
+    ])))
 
 pub returns : goal.returns
 unfolding list_of
 returns c =
-    rw (need_yes 7 _ (sym c.in_reach.ensures ∙ c.if-not-in_reach.false)) c.run.ensures
+    let a = c.args in
+    let e : c.div_ceil.result ≡ div_ceil (a.from - a.base) a.period = cc in
+    let g : Good a.base a.period a.from a.to = record { some = search rules; short = grind (arith, common_steps); based = omega arith; starts = omega arith; ends = omega arith } in
+    rw (need_yes 7 _ (good_so _ _ _ _ g), all_left _ _ _ _ _ g.some e) c.fill-listed.ensures

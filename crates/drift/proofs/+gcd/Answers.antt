@@ -1,5 +1,5 @@
-use Rattle.drift.proofs.Euclid.{turns}
+use Rattle.std.proofs.lemmas.Nat.Gcd.{IsGcd-from_mod}
 use Rattle.drift.proofs.+gcd.Goals as goal
 
 pub returns : goal.returns
-returns t c = turns _ _ _ c.gcd.ensures
+returns t c = IsGcd-from_mod _ _ _ c.gcd.ensures

@@ -1,29 +1,23 @@
--- Before each turn a row is judged, and the twos before it are noted.
-use native.Mathlib.Omega.{arith}
-use Rattle.drift.proofs.Pairs.{fit}
-use Rattle.drift.proofs.Loops.{begins, asks, goes_on, ends, empty}
+use Rattle.std.specs.Prelude.{◌≡◌}
+use Rattle.std.proofs.Common.{rules}
+use Rattle.std.proofs.lemmas.List.{nil_from_length}
+use Rattle.drift.specs.Inner.{says_tally, none_of}
+use Rattle.drift.proofs.Runs.{begins, goes_on, ends, empty}
 use Rattle.drift.proofs.report_on.Goals as goal
 
-pub returns-then-run-eq0 : goal.returns-then-run-eq0
-returns-then-run-eq0 c = rw (← empty c.args.run.now c.none.result c.if-run-eq0.true c.none.ensures) c.told.ensures
+pub returns-in_default : goal.returns-in_default
+returns-in_default c =
+    let e : says_tally c.default-tally.result ≡ none_of = search rules in
+    rw (e, empty c.args.run.now (nil_from_length _ c.in_default.ensures.cases)) at c.report.ensures
 
-pub loop-i-init : goal.loop-i-init
-loop-i-init c =
-    let r = c.args.run.now in
-    begins r c.none-tally.result c.judge-held.result (omega arith) (rw c.pair_at.ensures at c.judge-held.ensures) c.none-tally.ensures
+pub loop-place-init : goal.loop-place-init
+loop-place-init c =
+    let e : says_tally c.default-tally.result ≡ none_of = search rules in
+    begins c.args.run.now c.in-Some.rest.now c.in-Some.first.now _ _ c.in-Some.ensures.cases.0 e (rw c.from.ensures at c.judged-held.ensures)
 
-pub quotient_of-requires : goal.quotient_of-requires
-quotient_of-requires c = (fit _ _ c.loop-i.invariant.held_judged, fit _ _ c.judge-next.ensures)
-
-pub noted-tally-requires : goal.noted-tally-requires
-noted-tally-requires c =
-    asks c.args.run.now c.loop-i.i c.loop-i.tally c.loop-i.held c.loop-i.invariant c.quotient_of.result _ (omega arith) c.quotient_of.ensures
-
-pub loop-i-preserved : goal.loop-i-preserved
-loop-i-preserved c =
-    goes_on c.args.run.now c.loop-i.i c.loop-i.tally c.loop-i.held c.loop-i.invariant c.judge-next.result (omega arith)
-    (rw c.pair_at-in-loop-i.ensures at c.judge-next.ensures) c.quotient_of.result c.quotient_of.ensures c.noted-tally.result c.noted-tally.ensures
+pub loop-place-preserved : goal.loop-place-preserved
+loop-place-preserved c =
+    goes_on _ c.in-Some.rest.now c.loop-place.place _ _ c.loop-place.invariant _ _ _ c.loop-place-test.true (rw c.from-in-loop-place.ensures at c.judged-next.ensures) c.between.ensures c.note.ensures.one_more c.note.ensures.noted
 
 pub returns : goal.returns
-returns c =
-    rw (← ends c.args.run.now c.loop-i.i c.loop-i.tally c.loop-i.held c.loop-i.invariant (omega arith)) c.told-2.ensures
+returns c = rw (ends _ _ _ _ _ c.loop-place.invariant c.loop-place-test.false) at c.report-2.ensures

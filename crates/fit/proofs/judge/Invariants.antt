@@ -1,10 +1,6 @@
-use Prim.Native.Nat.{◌-◌}
 use Rattle.fit.specs.Inner.{permitted}
 use Rattle.fit.proofs.States.{Walk}
 use Rattle.fit.proofs.judge.Given as goal
 
 abbrev pub invariant-loop-i : goal.invariant-loop-i
-invariant-loop-i l = Walk l.table l.s (permitted l.start) l.state l.i
-
-abbrev pub decreases-loop-i : goal.decreases-loop-i
-decreases-loop-i l = l.len - l.i
+invariant-loop-i l = Walk l.s (permitted l.start) l.state l.i

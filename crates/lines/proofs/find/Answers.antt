@@ -1,18 +1,8 @@
-use native.Mathlib.Omega.{arith}
-use Rattle.lines.proofs.Finds.{before_here, before_next, before_end}
+use Rattle.std.proofs.Common.{rules, tests}
+use mathlib.Core.Path.{refl}
+use Rattle.std.proofs.lemmas.Iterator.{IsFirst-from_position, YieldsList-from_slice}
+use Rattle.lines.proofs.Finds.{feed, other, found}
 use Rattle.lines.proofs.find.Goals as goal
 
-pub returns-then-s-i-eq10 : goal.returns-then-s-i-eq10
-returns-then-s-i-eq10 c =
-    let e = before_here c.args.s.now c.loop-i.i (omega arith) c.if-s-i-eq10.true in
-    (omega (arith, e), omega arith, omega arith)
-
-pub loop-i-preserved : goal.loop-i-preserved
-loop-i-preserved c =
-    let e = before_next c.args.s.now c.loop-i.i (omega arith) c.if-s-i-eq10.false in
-    (omega arith, omega arith, omega (arith, e))
-
 pub returns : goal.returns
-returns c =
-    let e = before_end c.args.s.now c.loop-i.i (omega arith) in
-    (omega (arith, e), omega arith, omega arith)
+returns c = found _ _ _ _ _ c.requires refl c.unwrap_or.ensures (IsFirst-from_position _ _ c.position.result feed other c.position.ensures.ran (YieldsList-from_slice _ c.iter.ensures.rest) (λ x q k. search (rules, tests)) (λ x q k. search (rules, tests)))

@@ -1,33 +1,25 @@
-use mathlib.Core.Path.{◌≡◌, sym, ap, ◌∙◌}
+use Rattle.std.proofs.Common.{◌≡◌, sym, ap, Err, rules}
 use mir.Syntax.{w64}
 use Rattle.base.specs.Outcome.{Outcome, and_then}
 use Rattle.base.proofs.Signed.{back}
 use Rattle.scale.specs.Answers.{recorded}
 use Rattle.window.proofs.Room.{lists_refused}
-use Rattle.listing.specs.CucTag.{Periodic, periodic_of, list_periodic, list_cuc}
-use Rattle.listing.specs.Inner.{says_periodic}
+use Rattle.listing.specs.CucTag.{Periodic, list_periodic, list_cuc}
 use Rattle.listing.proofs.CucTags.{tag_good_lem}
-use Rattle.listing.proofs.list_cuc.Goals.{After-read}
 use Rattle.listing.proofs.list_cuc.Goals as goal
 
--- what the tag said, at the epoch itself
-told : (c : After-read) → periodic_of c.args.tag.now c.args.p c.args.epoch ≡ says_periodic c.read.result
-told c =
-    sym (rw (back w64 c.args.epoch c.ranges.epoch) at c.read.ensures)
+pub returns-in_err-tag : goal.returns-in_err-tag
+unfolding list_cuc
+returns-in_err-tag c =
+    let a = c.args in
+    let e : c.from_residual.result ≡ Err c.in_err-tag.field-0.0 = search rules in
+    rw e (lists_refused _ _ _ (ap (λ (x : Outcome Periodic). and_then x (list_periodic (recorded a.from) (recorded a.to))) (sym (rw (back w64 a.epoch c.ranges.epoch) at c.in_err-tag.ensures))))
 
 pub list_periodic-requires : goal.list_periodic-requires
 list_periodic-requires c =
     let a = c.args in
-    tag_good_lem a.tag.now a.p a.epoch _ (told (goal.at.list_periodic-requires c).After-read ∙ ap says_periodic c.in-Done.is)
+    tag_good_lem a.tag.now a.p a.epoch _ (sym (rw (back w64 a.epoch c.ranges.epoch) at c.in_ok-tag.ensures))
 
-pub returns-in-Refused : goal.returns-in-Refused
+pub returns : goal.returns
 unfolding list_cuc
-returns-in-Refused c =
-    let a = c.args in
-    lists_refused c.in-Refused.why _ a.out.now
-    (ap (λ (x : Outcome Periodic). and_then x (list_periodic (recorded a.from) (recorded a.to))) (told (goal.at.returns-in-Refused c).After-read ∙ ap says_periodic c.in-Refused.is))
-
-pub returns-in-Done : goal.returns-in-Done
-unfolding list_cuc
-returns-in-Done c =
-    rw (told (goal.at.returns-in-Done c).After-read ∙ ap says_periodic c.in-Done.is) c.list_periodic.ensures
+returns c = rw (sym (rw (back w64 c.args.epoch c.ranges.epoch) at c.in_ok-tag.ensures)) c.list_periodic.ensures

@@ -11,12 +11,9 @@ use Rattle.pfield.specs.declared.Layout.{Layout}
 use Rattle.pfield.specs.declared.Layout.TheVariants.{Cuc, Cds, Ccs}
 use Rattle.codes.specs.Reading.{width_of}
 use Rattle.place.specs.Binary.{fields_by, fields_at}
-use Rattle.place.proofs.Whole.{cds_wide, ccs_few, no_layout, cut_short, all_there, cuc_good}
+use Rattle.place.proofs.Whole.{cds_wide, ccs_few, all_there, cuc_good}
 use Rattle.place.proofs.in_field.Goals.{After-fits, Else-not-fits}
 use Rattle.place.proofs.in_field.Goals as goal
-
-fits : (c : After-fits) → let a = c.args in leb (a.at + width_of a.l) (length a.s.now) ≡ c.fits.result
-fits c = let a = c.args in ap (λ (w : ℕ). leb (a.at + w) (length a.s.now)) (sym c.size-w.ensures) ∙ sym c.fits.ensures
 
 -- the T-field of the layout that was found is all there, and its fields are those that are judged
 own : (c : Else-not-fits) → let a = c.args in (0 < width_of a.l) × (a.at + width_of a.l ≤ length a.s.now)
@@ -32,16 +29,6 @@ told : (c : Else-not-fits) (l : Layout) → c.args.l ≡ l → first_bad (fields
 told c l e =
     let a = c.args in
     ap first_bad (ap (fields_by a.s.now a.at) (sym e) ∙ all_there a.s.now a.at a.l (own c).0 (own c).1)
-
-pub returns-then-w-lt1 : goal.returns-then-w-lt1
-returns-then-w-lt1 c =
-    let a = c.args in
-    ap first_bad (no_layout a.s.now a.at a.l (omega (arith, c.size-w.ensures)))
-
-pub returns-then-not-fits : goal.returns-then-not-fits
-returns-then-not-fits c =
-    let a = c.args in
-    ap first_bad (cut_short a.s.now a.at a.l (fits (goal.at.returns-then-not-fits c).After-fits ∙ c.if-not-fits.true))
 
 pub in_cds-requires : goal.in_cds-requires
 in_cds-requires c =

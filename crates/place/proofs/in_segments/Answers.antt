@@ -1,9 +1,10 @@
-use mathlib.Core.Path.{ap, ◌∙◌}
-use native.Mathlib.Omega.{arith}
-use Rattle.place.specs.Inner.{number_of}
-use Rattle.place.proofs.Segments.{goes_on}
+use Rattle.std.proofs.Common.{◌≡◌, true, false, rules, tests}
+use Rattle.std.proofs.lemmas.Iterator.{first_from_Range}
+use Rattle.place.proofs.Segments.{bad, first_segment}
 use Rattle.place.proofs.in_segments.Goals as goal
 
-pub loop-i-preserved : goal.loop-i-preserved
-loop-i-preserved c =
-    goes_on c.loop-i.invariant c.loop-i-test.true c.number_of-pair.result (c.number_of-pair.ensures ∙ ap number_of c.bcd.ensures) (omega arith)
+pub returns : goal.returns
+returns c =
+    let a = c.args in
+    first_segment a.s.now a.at a.segments 7 c.find.result
+    (first_from_Range _ _ _ c.find.result (λ i. bad a.s.now a.at i ≡ true) (λ i. bad a.s.now a.at i ≡ false) c.find.ensures.ran (λ x q k. search (rules, tests)) (λ x q k. search (rules, tests)))

@@ -5,12 +5,12 @@ use Rattle.place.specs.Text.{tag_place}
 use Rattle.place.proofs.Texts.{wrong_place, right_place}
 use Rattle.place.proofs.in_tag.Goals as goal
 
-pub returns-in-Wrong : goal.returns-in-Wrong
+pub returns-in-Err : goal.returns-in-Err
 unfolding tag_place
-returns-in-Wrong c =
-    wrong_place tag_shapes fields_of c.args.s.now _ (sym c.tag_fit.ensures ∙ c.in-Wrong.is)
+returns-in-Err c =
+    wrong_place tag_shapes fields_of c.args.s.now _ (sym c.tag_fit.ensures ∙ c.in-Err.is)
 
-pub returns-in-Right : goal.returns-in-Right
+pub returns-in-Ok : goal.returns-in-Ok
 unfolding tag_place
-returns-in-Right c =
-    c.bad_field.ensures ∙ right_place tag_shapes fields_of c.args.s.now (sym c.tag_fit.ensures ∙ c.in-Right.is)
+returns-in-Ok c =
+    c.bad_field.ensures ∙ right_place tag_shapes fields_of c.args.s.now (sym c.tag_fit.ensures ∙ c.in-Ok.is)

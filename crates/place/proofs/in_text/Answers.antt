@@ -5,12 +5,12 @@ use Rattle.place.proofs.Texts.{wrong_place, right_shape, right_place}
 use Rattle.place.proofs.Codes.{code_fields_lem}
 use Rattle.place.proofs.in_text.Goals as goal
 
-pub returns-in-Wrong : goal.returns-in-Wrong
+pub returns-in-Err : goal.returns-in-Err
 unfolding text_place
-returns-in-Wrong c =
-    wrong_place code_shapes code_fields c.args.s.now _ (sym c.code_fit.ensures ∙ c.in-Wrong.is)
+returns-in-Err c =
+    wrong_place code_shapes code_fields c.args.s.now _ (sym c.code_fit.ensures ∙ c.in-Err.is)
 
-pub returns-in-Right : goal.returns-in-Right
+pub returns-in-Ok : goal.returns-in-Ok
 unfolding text_place
-returns-in-Right c =
-    c.bad_field.ensures ∙ code_fields_lem c.args.s.now (right_shape code_shapes code_fields c.args.s.now (sym c.code_fit.ensures ∙ c.in-Right.is)) ∙ right_place code_shapes code_fields c.args.s.now (sym c.code_fit.ensures ∙ c.in-Right.is)
+returns-in-Ok c =
+    c.bad_field.ensures ∙ code_fields_lem c.args.s.now (right_shape code_shapes code_fields c.args.s.now (sym c.code_fit.ensures ∙ c.in-Ok.is)) ∙ right_place code_shapes code_fields c.args.s.now (sym c.code_fit.ensures ∙ c.in-Ok.is)

@@ -1,10 +1,13 @@
--- `receiver::go_on` meets its contract. The loop's invariant: the first i T-fields stand in their rows.
-use Rattle.receiver.proofs.Going.{begins, goes_on}
+-- `receiver::go_on` meets its contract. The loop's invariant: the first T-fields stand in their rows.
+use native.Mathlib.Omega.{arith}
+use Rattle.receiver.proofs.Going.{begins, goes_on, went}
 use Rattle.receiver.proofs.go_on.Goals as goal
 
-pub loop-i-init : goal.loop-i-init
-loop-i-init c = begins c.args.piece.now c.args.at c.args.l c.args.rows.now c.args.n c.requires.0 c.requires.1
+pub loop-row-init : goal.loop-row-init
+loop-row-init c = begins _ _ _ _ c.requires
 
-pub loop-i-preserved : goal.loop-i-preserved
-loop-i-preserved c =
-    rw (c.row_at-row.ensures, c.size-w.ensures) (goes_on c.loop-i.invariant c.loop-i-test.true)
+pub loop-row-preserved : goal.loop-row-preserved
+loop-row-preserved c = rw (c.row_at.ensures, c.size-w.ensures) (goes_on c.loop-row.invariant (omega arith))
+
+pub returns : goal.returns
+returns c = went c.loop-row.invariant (omega arith)

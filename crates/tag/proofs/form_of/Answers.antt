@@ -1,8 +1,14 @@
-use mathlib.Core.Path.{sym, ◌∙◌}
-use native.Mathlib.Omega.{arith}
-use Rattle.tag.proofs.Rows.{find_here}
+use mathlib.Core.Path.{ap, ◌∙◌}
+use Rattle.std.proofs.Common.{rules, tests}
+use Rattle.tag.specs.Inner.{found}
+use Rattle.std.proofs.lemmas.Iterator.{YieldsList-from_slice}
+use Rattle.std.proofs.lemmas.Iterator.Search.{find_from_yields_List}
+use Rattle.shape.specs.Shapes.{fits}
+use Rattle.tag.proofs.Rows.{finds}
 use Rattle.tag.proofs.form_of.Goals as goal
 
-pub returns-then-has_shape : goal.returns-then-has_shape
-returns-then-has_shape c =
-    (omega arith, omega arith, find_here c.args.s.now c.args.to c.loop-i.i c.requires.1 (omega arith) (sym c.has_shape.ensures ∙ c.if-has_shape.true) ∙ c.loop-i.invariant.2)
+pub returns : goal.returns
+returns c =
+    let a = c.args in
+    ap found (c.copied.ensures ∙ find_from_yields_List (λ f. fits f.0.now a.s.now) _ _ c.find.result c.find.ensures.ran (YieldsList-from_slice a.forms.now cc) (λ x b q k. search (rules, tests)))
+    ∙ finds a.forms.now a.s.now

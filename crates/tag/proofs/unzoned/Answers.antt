@@ -1,43 +1,33 @@
-use mathlib.Core.Path.{◌≡◌, sym, ap, ◌∙◌}
-use native.Mathlib.Omega.{arith}
+use mathlib.Core.Path.{◌≡◌, ap, ◌∙◌}
 use lib.ListN.{take, drop}
+use Rattle.std.proofs.Common.{rules, tests}
 use Rattle.base.specs.Outcome.{done}
+use Rattle.base.specs.Said.{said}
+use Rattle.base.proofs.Passed.{passed_as}
+use Rattle.tag.specs.Forms.{find}
 use Rattle.seek.specs.declared.Clock.{Clock}
-use Rattle.tag.specs.Forms.{Place, find}
 use Rattle.tag.specs.Tags.{fraction_as, daytime}
-use Rattle.tag.specs.Inner.{form_at, between, says_part}
-use Rattle.tag.proofs.Scans.{rest_is}
-use Rattle.tag.proofs.Rows.{found_form, found_row, found_none}
-use Rattle.tag.proofs.Times.{unzoned_none, unzoned_bad, unzoned_done}
-use Rattle.tag.proofs.unzoned.Goals.{After-fraction-part, Else-to-i}
+use Rattle.tag.specs.Inner.{form_as, forms_as, daytime_of}
+use Rattle.tag.proofs.Times.{unzoned_bad, unzoned_done}
+use Rattle.tag.proofs.unzoned.Goals.{After-fraction, In_ok-form}
 use Rattle.tag.proofs.unzoned.Goals as goal
 
-pub returns-then-to-i : goal.returns-then-to-i
-returns-then-to-i c =
-    let to = c.args.to in
-    unzoned_none (between 8 to) c.args.s.now c.until-p.result c.until-p.ensures.0 (found_none (between 8 to) (take c.until-p.result c.args.s.now) to c.form_of-i.result c.form_of-i.ensures.2 (omega arith))
+-- what the calls told of the form and of the fraction
+own : (c : In_ok-form) → find (forms_as c.args.forms.now) (take c.until.result c.args.s.now) ≡ done (form_as c.in_ok-form.form)
+own c = search (rules, tests)
 
--- what the calls told of the row and of the fraction
-own : (c : Else-to-i) → find (between 8 c.args.to) (take c.until-p.result c.args.s.now) ≡ done (form_at c.form_of-i.result)
-own c =
-    let to = c.args.to in
-    found_form (between 8 to) (take c.until-p.result c.args.s.now) to c.form_of-i.result c.form_of-i.ensures.2 (omega arith)
+part : (c : After-fraction) → fraction_as (form_as c.in_ok-form.form).third (drop c.until.result c.args.s.now) ≡ said c.fraction.result
+part c = search (rules, tests)
 
-part : (c : After-fraction-part) → says_part c.fraction-part.result ≡ fraction_as (form_at c.form_of-i.result).third (drop c.until-p.result c.args.s.now)
-part c =
-    rw (rest_is c.args.s.now c.until-p.result) at c.fraction-part.ensures ∙ ap (λ (x : Place). fraction_as x (drop c.until-p.result c.args.s.now)) c.place-third.ensures
+pub returns-in_err-ticks : goal.returns-in_err-ticks
+returns-in_err-ticks c =
+    let g = goal.at.returns-in_err-ticks c in
+    passed_as daytime_of _ _ c.from_residual-in_err-ticks.ensures.1
+    ∙ unzoned_bad (forms_as c.args.forms.now) c.args.s.now c.until.result c.until.ensures.0 (form_as c.in_ok-form.form) (own g.In_ok-form) _ (part g.After-fraction ∙ ap said c.in_err-ticks.was)
 
-pub clock_as-clock-requires : goal.clock_as-clock-requires
-clock_as-clock-requires c =
-    (c.form_of-i.ensures.0, found_row (between 8 c.args.to) (take c.until-p.result c.args.s.now) c.args.to c.form_of-i.result c.form_of-i.ensures.2 (omega arith) c.requires.1)
-
-pub returns-in-Bad : goal.returns-in-Bad
-returns-in-Bad c =
-    let to = c.args.to in
-    unzoned_bad (between 8 to) c.args.s.now c.until-p.result c.until-p.ensures.0 (form_at c.form_of-i.result) (own (goal.at.returns-in-Bad c).Else-to-i) (sym (part (goal.at.returns-in-Bad c).After-fraction-part) ∙ ap says_part c.in-Bad.is)
-
-pub returns-in-Good : goal.returns-in-Good
-returns-in-Good c =
-    let to = c.args.to in
-    let n = c.in-Good.ticks in
-    ap (λ (x : Clock). done (daytime x n)) c.clock_as-clock.ensures ∙ unzoned_done (between 8 to) c.args.s.now c.until-p.result c.until-p.ensures.0 (form_at c.form_of-i.result) (own (goal.at.returns-in-Good c).Else-to-i) n (sym (part (goal.at.returns-in-Good c).After-fraction-part) ∙ ap says_part c.in-Good.is)
+pub returns : goal.returns
+returns c =
+    let g = goal.at.returns c in
+    let n = c.in_ok-ticks.ticks in
+    ap (λ (x : Clock). done (daytime x n)) (rw c.split_at.ensures.front at c.clock.ensures)
+    ∙ unzoned_done (forms_as c.args.forms.now) c.args.s.now c.until.result c.until.ensures.0 (form_as c.in_ok-form.form) (own g.In_ok-form) n (part g.After-fraction ∙ ap said c.in_ok-ticks.was)

@@ -6,7 +6,9 @@ use mir.Val.{to_z, of_z}
 use Rattle.base.specs.Parts.{bits_of}
 use Rattle.octets.specs.Places.{octets, octet_of}
 use Rattle.octets.proofs.Places.{length_places}
+use Rattle.octets.proofs.Pastes.{copied}
 use Rattle.honigzange.proofs.States.{put_in}
+use native.Mathlib.Omega.{arith}
 use borrow.Author.Rules.{rules}
 use Rattle.honigzange.proofs.receivers.state_of.Goals.{Start}
 use Rattle.honigzange.proofs.receivers.state_of.Goals as goal
@@ -19,4 +21,5 @@ returns c =
     let r = c.args.r in
     let e : to_z w64 (of_z w64 r.epoch) ≡ r.epoch = search rules in
     let b : c.unsigned.result ≡ bits_of r.epoch = rw e at c.unsigned.ensures in
-    put_in r.p.octet r.count (octets 8 (bits_of r.epoch)) r.pending _ _ _ (length_places 256 octet_of 8 (bits_of r.epoch)) (size (goal.at.returns c).Start) (rw b at c.put_count.ensures) c.with_pending.ensures
+    let n = size (goal.at.returns c).Start in
+    put_in r.p.octet r.count (octets 8 (bits_of r.epoch)) r.pending _ _ _ (length_places 256 octet_of 8 (bits_of r.epoch)) n (rw b at c.put_count.ensures) (copied _ r.pending _ 10 12 c.copy_from_slice.ensures.after (omega arith))

@@ -1,33 +1,23 @@
-use mathlib.Core.Path.{◌≡◌, sym, ap, ◌∙◌}
-use native.Mathlib.Omega.{arith}
-use Rattle.base.specs.Outcome.{done}
-use Rattle.scale.specs.Answers.{recorded, says_record}
-use Rattle.cuc.specs.Cuc.{field}
-use Rattle.pfield.specs.declared.Layout.TheVariants.{Cuc}
-use Rattle.codes.proofs.Fields.{width_low}
-use Rattle.listing.proofs.CucTags.{tag_short, tag_long, tag_whole, tag_power}
-use Rattle.listing.proofs.periodic.read_with.Goals.{In-Done}
+use Rattle.std.proofs.Common.{◌≡◌, sym, Err, arith, rules}
+use Rattle.listing.proofs.CucTags.{tag_short, tag_long, tag_whole, tag_power, width_low}
 use Rattle.listing.proofs.periodic.read_with.Goals as goal
 
-pub overflow_add-end : goal.overflow_add-end
-overflow_add-end c = omega (arith, c.size.ensures, width_low (Cuc c.args.c))
+pub returns-in_err-first : goal.returns-in_err-first
+returns-in_err-first c =
+    let a = c.args in
+    let e : c.from_residual.result ≡ Err c.in_err-first.field-0.0 = search rules in
+    rw e (sym (tag_short a.tag.now a.at a.layout _ (sym c.in_err-first.ensures)))
 
--- the moment that was read
-moment : (c : In-Done) → field c.args.tag.now c.args.at c.args.c ≡ done (recorded c.in-Done.first)
-moment c = sym c.read.ensures ∙ ap says_record c.in-Done.is
+pub overflow_add-end : goal.overflow_add-end
+overflow_add-end c = omega (arith, width_low c.args.layout)
 
 pub returns-then-end-tag : goal.returns-then-end-tag
 returns-then-end-tag c =
     let a = c.args in
-    sym (tag_long a.tag.now a.at a.c _ (moment (goal.at.returns-then-end-tag c).In-Done) (omega (arith, c.size.ensures)))
+    sym (tag_long a.tag.now a.at a.layout _ (sym c.in_ok-first.ensures) (omega (arith, c.size.ensures)))
 
-pub returns-in-Refused : goal.returns-in-Refused
-returns-in-Refused c =
+pub returns : goal.returns
+returns c =
     let a = c.args in
-    sym (tag_short a.tag.now a.at a.c _ (sym c.read.ensures ∙ ap says_record c.in-Refused.is))
-
-pub returns-else-end-tag : goal.returns-else-end-tag
-returns-else-end-tag c =
-    let a = c.args in
-    rw (c.power256.ensures, tag_power a.tag.now a.at a.c _ (moment (goal.at.returns-else-end-tag c).In-Done))
-    (sym (tag_whole a.tag.now a.at a.c _ (moment (goal.at.returns-else-end-tag c).In-Done) (omega (arith, c.size.ensures))))
+    rw (c.power256-period.ensures, tag_power a.tag.now a.at a.layout _ (sym c.in_ok-first.ensures))
+    (sym (tag_whole a.tag.now a.at a.layout _ (sym c.in_ok-first.ensures) (omega (arith, c.size.ensures))))
