@@ -172,10 +172,30 @@ at_same B n y z e f = same y z (omega arith)
 pub at_once : (B m n : ℕ) (z : ℤ) → At B m z → At B n z → m ≡ n
 at_once B m n z e f = omega arith
 
--- the bits without a sign, and back
+-- raised by 2^63, then by as much again or lowered, they are the bits without a sign
+pub bits_below : (n : ℕ) (z : ℤ) → At (2 ^ 63) n z → n < 2 ^ 63 → n + 2 ^ 63 ≡ bits_of z
+bits_below n (pos m) e h = absurd (omega arith)
+bits_below n (negsuc m) e h = omega arith
+
+pub bits_above : (n : ℕ) (z : ℤ) → At (2 ^ 63) n z → 2 ^ 63 ≤ n → n - 2 ^ 63 ≡ bits_of z
+bits_above n (pos m) e h = omega arith
+bits_above n (negsuc m) e h = absurd (omega arith)
+
+-- and back: what is lowered by 2^63, raised by as much before or lowered once more
+pub signed_below : (n : ℕ) (z : ℤ) → At (2 ^ 63) (n + 2 ^ 63) z → n < 2 ^ 63 → z ≡ signed_of n
+signed_below n z e h = at_same (2 ^ 63) (n + 2 ^ 63) z (pos n) e (omega arith) ∙ sym (cond_yes _ _ (lt-ltb n (2 ^ 63) h))
+
+pub signed_above : (n : ℕ) (z : ℤ) → At (2 ^ 63) (n - 2 ^ 63) z → 2 ^ 63 ≤ n → z ≡ signed_of n
+signed_above n z e h = at_same (2 ^ 63) (n - 2 ^ 63) z (sub_ℕ n (2 ^ 64)) e (omega (arith, less n (2 ^ 64))) ∙ sym (cond_no _ _ (le-ltb n (2 ^ 63) h))
+
+-- the two are inverse
 pub signed_bits : (z : ℤ) → plus z < 2 ^ 63 → minus z ≤ 2 ^ 63 → signed_of (bits_of z) ≡ z
 signed_bits (pos n) p m = cond_yes _ _ (lt-ltb n (2 ^ 63) p)
 signed_bits (negsuc n) p m = cond_no _ _ (le-ltb (2 ^ 64 - suc n) (2 ^ 63) (omega arith)) ∙ same (sub_ℕ (2 ^ 64 - suc n) (2 ^ 64)) (negsuc n) (omega (arith, less (2 ^ 64 - suc n) (2 ^ 64)))
+
+-- n more than what stands for y stands for y + n
+pub at_sum : (B m n : ℕ) (y z : ℤ) → At B m y → At B (m + n) z → y +ℤ pos n ≡ z
+at_sum B m n y z e f = same (y +ℤ pos n) z (omega (arith, sum y (pos n)))
 
 -- at another bias
 pub at_more : (B K n : ℕ) (z : ℤ) → At B n z → At (B + K) (n + K) z

@@ -37,7 +37,7 @@ pub const RECORD_BIAS: u64 = (1 << 63) - (1 << 41);
 // 2^63: where raised numbers have 0.
 const RAISED_ZERO: u64 = 1 << 63;
 
-// z + 2^63, in the order of the signed numbers.
+// z + 2^63, in the order of the signed numbers. All arithmetic on signed numbers is done on these.
 pub fn raised(z: i64) -> u64
     ensures { At (2 ^ 63) result z }
 {
