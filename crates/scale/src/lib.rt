@@ -23,6 +23,9 @@ pub type Record = Seconds<2199023255551>;
 // The way from one moment to another: minus half a second is -1 s and half a second of ticks.
 pub type Span = Seconds<4398046511103>;
 
+// 2^63 less 2^42: how far a raised second is raised beyond one that is counted from the first second of a span.
+const SPAN_BIAS: u64 = (1 << 63) - (1 << 42);
+
 impl Record {
     // The ticks of a second.
     pub const TICKS: u64 = 4_096_000_000_000_000;
@@ -85,14 +88,19 @@ pub fn shift(r: Record, s: Span) -> Result<Record, Refusal>
 {
     let r = r.in_range()?;
     let s = s.in_range()?;
-    moved(r, s).in_range()
+    let to = moved(r, s);
+    if to.valid() {
+        Ok(to)
+    } else {
+        Err(Refusal::Range)
+    }
 }
 
 // Whether a stands before b: by the seconds, then by the ticks.
 pub fn before(a: Record, b: Record) -> bool
     ensures { result ≡ earlier (recorded a) (recorded b) }
 {
-    a < b
+    (a.raised(), a.ticks) < (b.raised(), b.ticks)
 }
 
 // a - b, which borrows a second where b has more ticks.
@@ -100,17 +108,13 @@ fn apart(a: Record, b: Record) -> Span
     requires { Within (2 ^ 41) (recorded a) × Within (2 ^ 41) (recorded b) }
     ensures { Less (recorded a) (recorded b) (spanned result) }
 {
-    let sec = a.sec - b.sec;
+    // the seconds of b from -2^41 on, and the difference raised by 2^63
+    let from = b.raised() - base::RECORD_BIAS;
+    let to = a.raised() - from + (1 << 41);
     if b.ticks <= a.ticks {
-        Span {
-            sec,
-            ticks: a.ticks - b.ticks,
-        }
+        Span::lowered(to, a.ticks - b.ticks)
     } else {
-        Span {
-            sec: sec - 1,
-            ticks: a.ticks + Record::TICKS - b.ticks,
-        }
+        Span::lowered(to - 1, a.ticks + Record::TICKS - b.ticks)
     }
 }
 
@@ -119,14 +123,13 @@ fn moved(r: Record, s: Span) -> Record
     requires { Within (2 ^ 41) (recorded r) × Within (2 ^ 42) (spanned s) }
     ensures { Together (recorded r) (spanned s) (recorded result) }
 {
-    let sec = r.sec + s.sec;
+    // the seconds of s from -2^42 on, and the sum raised by 2^63
+    let by = s.raised() - SPAN_BIAS;
+    let to = r.raised() - (1 << 42) + by;
     let ticks = r.ticks + s.ticks;
     if ticks < Record::TICKS {
-        Record { sec, ticks }
+        Record::lowered(to, ticks)
     } else {
-        Record {
-            sec: sec + 1,
-            ticks: ticks - Record::TICKS,
-        }
+        Record::lowered(to + 1, ticks - Record::TICKS)
     }
 }
