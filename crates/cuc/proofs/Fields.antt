@@ -122,6 +122,10 @@ module _ {s : List ℕ} {at : ℕ} {l : Layout} {m : Time} (t : Told s at l m) w
 
 -- ---- writing
 module _ (l : Layout) (r : Time) where
+  pub bytes_invalid : is_record r ≡ false → bytes_of l r ≡ refused 7
+  unfolding bytes_of
+  bytes_invalid v = need_no 7 _ v
+
   module _ (at : ℕ) (d : List ℕ) where
     pub write_invalid : is_record r ≡ false → Wrote (and_then (bytes_of l r) (roomed d at)) at d d (Err Range)
     unfolding bytes_of
@@ -132,6 +136,14 @@ module _ (l : Layout) (r : Time) where
     write_unjudged why v h = refuses why _ at d (rw (v, ← unsettled (is_width l) (is_epoch l.epoch) 3 7 l (need (holds l r) 7 (done (coded l r))) (number why) h))
 
   module _ (v : is_record r ≡ true) where
+    pub bytes_unknown : is_width l ≡ false → bytes_of l r ≡ refused 3
+    unfolding bytes_of
+    bytes_unknown h = need_yes 7 _ v ∙ need_no 3 _ h
+
+    pub bytes_epoch : is_width l ≡ true → is_epoch l.epoch ≡ false → bytes_of l r ≡ refused 7
+    unfolding bytes_of
+    bytes_epoch w h = need_yes 7 _ v ∙ need_yes 3 _ w ∙ need_no 7 _ h
+
     module _ (h : is_layout l ≡ true) where
       pub bytes_out : holds l r ≡ false → bytes_of l r ≡ refused 7
       unfolding bytes_of is_layout

@@ -1,5 +1,5 @@
 -- The times that two counts name: they are records, and stand in the order of their ticks from the epoch. Of a time that is written, the latest of them that is not after it.
-use mathlib.Core.Path.{◌≡◌, refl, ap, ◌∙◌}
+use mathlib.Core.Path.{◌≡◌, refl, sym, ap, ◌∙◌}
 use mathlib.Core.Bool.{Bool, true, false}
 use Prim.Native.Nat.{ℕ, ◌+◌, ◌*◌, ◌^◌, ◌<◌, ◌≤◌}
 use native.Mathlib.Nat.{add-mul, mul_assoc}
@@ -20,6 +20,12 @@ use Rattle.cuc.proofs.Widths.{power_le, grain}
 use Rattle.cuc.proofs.Sources.{held_is}
 
 -- ---- a time of two counts
+-- by its seconds and its ticks
+pub time_is : (l : Layout) (c f : ℕ) (r : Time) → plus r.sec + minus l.epoch ≡ minus r.sec + (plus l.epoch + c) → r.ticks ≡ f * unit l.fine → time_of l c f ≡ r
+time_is l c f r s t =
+    let e : l.epoch +ℤ pos c ≡ r.sec = same (l.epoch +ℤ pos c) r.sec (omega (arith, sum l.epoch (pos c))) in
+    λ i. record { sec = e i; ticks = sym t i }
+
 module _ (l : Layout) (g : Good l) (c f : ℕ) where
   pub valid_time : c < 256 ^ l.coarse → f < 256 ^ l.fine → is_record (time_of l c f) ≡ true
   valid_time h k =
