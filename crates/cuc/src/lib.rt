@@ -87,7 +87,7 @@ struct Judged {
 }
 
 impl Judged {
-    #[tactic(auto, using(crate::proofs::Fields::rungs, crate::proofs::Fields::seconds_lt, crate::proofs::Fields::parts_lt, std::proofs::lemmas::Int::ints))]
+    #[tactic(auto, using(crate::proofs::Fields::rungs, crate::proofs::Fields::seconds_lt, crate::proofs::Fields::parts_lt, base::proofs::Signed::at_sum, std::proofs::lemmas::Int::ints))]
     fn read(self, s: &[u8], at: usize) -> Result<Record, Refusal>
         ensures { says_record result ≡ field s.now at self.layout }
     {
@@ -97,8 +97,10 @@ impl Judged {
         }
         let whole = octets::count(s, at, l.coarse)?;
         let parts = octets::count(s, at + l.coarse, l.fine)?;
+        let epoch = l.epoch;
+        let start = base::raised(epoch);
         Ok(Record {
-            sec: l.epoch + whole as i64,
+            sec: base::lowered(start + whole),
             ticks: parts * self.unit(),
         })
     }
@@ -110,8 +112,9 @@ impl Judged {
         ensures { Wrote (and_then (bytes_of self.layout (recorded r)) (roomed out.old at)) at out.old out.new result }
     {
         let l = self.layout;
-        let last = l.epoch + (octets::power256(l.coarse) - 1) as i64;
-        let whole = base::seated(l.epoch, last, r.sec).ok_or(Refusal::Range)?;
+        let first = l.epoch;
+        let last = base::lowered(base::raised(first) + (octets::power256(l.coarse) - 1));
+        let whole = base::seated(first, last, r.sec).ok_or(Refusal::Range)?;
         let parts = r.ticks / self.unit();
         let w = l.coarse + l.fine;
         if !octets::fits(out.len(), at, w) {
