@@ -21,7 +21,19 @@ use Rattle.cds.proofs.Trips.{found, floored, coded_reads, coded_floor, named_cod
 
 -- ---- when a write is refused, and when it is not
 module _ (l : Layout) (m : Moment) where
+  pub layout_refused : is_width l ≡ false → bytes_of l m ≡ refused 3
+  unfolding bytes_of
+  layout_refused e = need_no 3 _ e
+
+  pub epoch_refused : is_width l ≡ true → is_epoch_day l.epoch ≡ false → bytes_of l m ≡ refused 7
+  unfolding bytes_of
+  epoch_refused w e = need_yes 3 _ w ∙ need_no 7 _ e
+
   module _ (e : is_layout l ≡ true) where
+    pub moment_refused : is_moment m ≡ false → bytes_of l m ≡ refused 7
+    unfolding bytes_of is_layout
+    moment_refused v = needs_yes (is_width l) _ 3 7 _ e ∙ need_no 7 _ v
+
     pub written_out : is_moment m ≡ true → held l m.day ≡ false → bytes_of l m ≡ refused 7
     unfolding bytes_of is_layout
     written_out v h = needs_yes (is_width l) _ 3 7 _ e ∙ need_yes 7 _ v ∙ need_no 7 _ h
