@@ -119,7 +119,7 @@ impl Judged {
     }
 
     // The moment of a day from the epoch, a millisecond of day and a part of the millisecond.
-    #[tactic(auto, using(std::proofs::lemmas::Int::ints), unfolding(crate::specs::Cds::moment_by))]
+    #[tactic(auto, using(base::proofs::Signed::at_sum, std::proofs::lemmas::Int::ints), unfolding(crate::specs::Cds::moment_by))]
     fn moment(self, day: u64, millisecond: u64, part: u64) -> Result<Moment, Refusal>
         requires { day < 2 ^ 24 }
         ensures { said result ≡ moment_by self.layout day millisecond part }
@@ -128,7 +128,7 @@ impl Judged {
             return Err(Refusal::Field);
         }
         Ok(Moment {
-            day: self.layout.epoch + day as i64,
+            day: base::lowered(base::raised(self.layout.epoch) + day),
             second: millisecond / 1000,
             ticks: millisecond % 1000 * MILLISECOND + part * self.unit(),
         })
@@ -141,8 +141,9 @@ impl Judged {
         ensures { Wrote (and_then (bytes_of self.layout m) (roomed out.old at)) at out.old out.new result }
     {
         let l = self.layout;
-        let last = l.epoch + (octets::power256(l.day) - 1) as i64;
-        let day = base::seated(l.epoch, last, m.day).ok_or(Refusal::Range)?;
+        let first = l.epoch;
+        let last = base::lowered(base::raised(first) + (octets::power256(l.day) - 1));
+        let day = base::seated(first, last, m.day).ok_or(Refusal::Range)?;
         let millisecond = m.second * 1000 + m.ticks / MILLISECOND;
         let part = m.ticks % MILLISECOND / self.unit();
         let w = l.day + 4 + l.part;

@@ -9,7 +9,9 @@ use mir.Syntax.{w64}
 use mir.Val.{to_z, of_z}
 use Rattle.std.proofs.lemmas.Int.{ints}
 use Rattle.std.specs.Prelude.{Err, Some, None}
+use Rattle.base.specs.Parts.{At}
 use Rattle.base.specs.Seats.{seat_of}
+use Rattle.base.proofs.Signed.{at_sum}
 use Rattle.base.specs.declared.Refusal.TheVariants.{Range}
 use Rattle.octets.proofs.Writes.{refuses}
 use Rattle.cds.proofs.Laws.{many_days}
@@ -27,7 +29,9 @@ seat c =
     let m = many_days l c.args.self.good c.power256.result c.power256.ensures in
     let e : to_z w64 (of_z w64 l.epoch) ≡ l.epoch = search rules in
     let f : to_z w64 (of_z w64 z) ≡ z = search rules in
-    let g : to_z w64 (of_z w64 (to_z w64 (of_z w64 l.epoch) +ℤ to_z w64 (c.power256.result - 1))) ≡ last = omega (arith, ints, m) in
+    let b : At (2 ^ 63) c.raised.result l.epoch = rw e at c.raised.ensures in
+    let i : l.epoch +ℤ pos (c.power256.result - 1) ≡ c.lowered-last.result = at_sum (2 ^ 63) c.raised.result (c.power256.result - 1) l.epoch c.lowered-last.result b c.lowered-last.ensures in
+    let g : to_z w64 (of_z w64 c.lowered-last.result) ≡ last = omega (arith, ints, m, i) in
     rw (g, f, e) at c.seated.ensures
 
 pub returns-in_err-day : goal.returns-in_err-day
