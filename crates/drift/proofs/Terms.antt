@@ -1,14 +1,14 @@
 -- Lowest terms: what both sides divided by their greatest common divisor are, and nothing else is.
 use mathlib.Core.Path.{◌≡◌, refl, sym, ap, ◌∙◌}
-use Prim.Native.Nat.{ℕ, ◌*◌, ◌/◌, ◌<◌, ◌≤◌, ◌∣◌}
+use Prim.Native.Nat.{ℕ, ◌+◌, ◌*◌, ◌/◌, ◌<◌, ◌∣◌}
 use native.Mathlib.Nat.{one-mul, zero-mul, mul_assoc, mul_comm, mul_right_comm, dvd_antisymm, dvd-mul_left, mul-dvd-mul_right, dvd_of_mul-dvd-mul_right, eq-one_of_dvd-one, pos_of_dvd_of_pos, le_of_dvd, div-mul_cancel, le-div_iff_mul-le, eq_of_mul-eq-mul_right}
 use native.Mathlib.Omega.{arith}
 use lib.Dec.{lit<}
 use Rattle.std.specs.Int.{IsGcd, abs_diff}
 use Rattle.std.proofs.lemmas.Int.{unsigned_abs-mul}
-use lib.IntN.{ℤ, pos, nat_abs, ◌-ℤ◌, ◌*ℤ◌}
+use lib.IntN.{ℤ, pos, nat_abs, ◌*ℤ◌}
 use Rattle.base.specs.Parts.{plus, minus, lowered_by}
-use Rattle.base.proofs.Signed.{same, difference, times_plus, times_minus, abs_is, apart, lower_is}
+use Rattle.base.proofs.Signed.{same, times_plus, times_minus, abs_is, apart, lower_is}
 use Rattle.drift.specs.Fraction.{Fraction, Lowest}
 use Rattle.drift.specs.Rate.{step}
 use Rattle.drift.specs.Steps.{most, in_ticks, ratio}
@@ -18,22 +18,23 @@ use Rattle.drift.proofs.Euclid.{gauss}
 pub size_is : (o : ℕ) → abs_diff o most ≡ nat_abs (lowered_by most o)
 size_is o = omega (arith, lower_is most o, abs_is (lowered_by most o), apart (lowered_by most o))
 
-module _ (o g : ℕ) (r : ℤ) (d : g ∣ nat_abs (lowered_by most o)) where
-  exact : abs_diff o most / g * g ≡ abs_diff o most
-  exact = div-mul_cancel g (rw (size_is o) d)
+module _ (o g n : ℕ) (r : ℤ) (d : g ∣ nat_abs (lowered_by most o)) where
+  exact : n ≡ abs_diff o most → n / g * g ≡ n
+  exact e = div-mul_cancel g (rw (e, size_is o) d)
 
-  pub shrunk_below : o < most → r ≡ pos 0 -ℤ pos (abs_diff o most / g) → r *ℤ pos g ≡ lowered_by most o
-  shrunk_below h e =
-      let m = abs_diff o most / g in
-      let p : plus r ≡ 0 = rw e (omega (arith, difference (pos 0) (pos m), apart (pos 0 -ℤ pos m))) in
-      let n : minus r ≡ m = rw e (omega (arith, difference (pos 0) (pos m), apart (pos 0 -ℤ pos m))) in
-      same (r *ℤ pos g) (lowered_by most o)
-      (rw (times_plus r g, times_minus r g, p, n, exact) (omega (arith, lower_is most o)))
+  pub shrunk_below : n + o ≡ most → minus r ≡ n / g + plus r → r *ℤ pos g ≡ lowered_by most o
+  shrunk_below e f =
+      let z = lowered_by most o in
+      let m : minus r ≡ n / g = omega (arith, apart r) in
+      let p : plus r ≡ 0 = omega (arith, apart r) in
+      same (r *ℤ pos g) z (rw (times_plus r g, times_minus r g, m, p, exact (omega arith)) (omega (arith, lower_is most o, apart z)))
 
-  pub shrunk_above : most ≤ o → r ≡ pos (abs_diff o most / g) → r *ℤ pos g ≡ lowered_by most o
-  shrunk_above h e =
-      same (r *ℤ pos g) (lowered_by most o)
-      (rw (times_plus r g, times_minus r g, e, exact) (omega (arith, lower_is most o)))
+  pub shrunk_above : n + most ≡ o → plus r ≡ n / g + minus r → r *ℤ pos g ≡ lowered_by most o
+  shrunk_above e f =
+      let z = lowered_by most o in
+      let m : minus r ≡ 0 = omega (arith, apart r) in
+      let p : plus r ≡ n / g = omega (arith, apart r) in
+      same (r *ℤ pos g) z (rw (times_plus r g, times_minus r g, m, p, exact (omega arith)) (omega (arith, lower_is most o, apart z)))
 
 -- ---- a product of integers by its parts
 pub abs_times : (z : ℤ) (k : ℕ) → nat_abs (z *ℤ pos k) ≡ nat_abs z * k

@@ -338,9 +338,14 @@ impl Quotient {
     {
         let size = self.num.abs_diff(MOST);
         let divisor = gcd(size, self.den);
-        let num = (size / divisor) as i64;
+        let part = size / divisor;
+        let zero = base::raised(0);
         Rate {
-            num: if self.num < MOST { -num } else { num },
+            num: base::lowered(if self.num < MOST {
+                zero - part
+            } else {
+                zero + part
+            }),
             den: self.den / divisor,
         }
     }
