@@ -61,10 +61,16 @@ width_some (Cds l) e = omega (arith, DL.width_is l e)
 width_some (Ccs l) e = omega (arith, CR.width_is l (leb-true l.segments 6 e))
 
 -- the octets of a T-field that was read, and of one that was written
+pub cds_octets : (t : Table) (s : List ℕ) (at : ℕ) (l : CdsLayout) (x : Time) → read_by t (cdsField s at l) ≡ done x → at + cdsWidth l ≤ length s
+cds_octets t s at l x h = let r = read_of t (cdsField s at l) x h in D.read_width s at l r.moment r.named
+
+pub ccs_octets : (t : Table) (s : List ℕ) (at : ℕ) (l : CcsLayout) (x : Time) → read_by t (ccsField s at l) ≡ done x → at + ccsWidth l ≤ length s
+ccs_octets t s at l x h = let r = read_of t (ccsField s at l) x h in C.read_width s at l r.moment r.named
+
 pub field_width : (t : Table) (s : List ℕ) (at : ℕ) (l : Layout) (x : Time) → field_of t s at l ≡ done x → at + width_of l ≤ length s
 field_width t s at (Cuc l) x h = U.read_width s at l x h
-field_width t s at (Cds l) x h = let r = read_of t (cdsField s at l) x h in D.read_width s at l r.moment r.named
-field_width t s at (Ccs l) x h = let r = read_of t (ccsField s at l) x h in C.read_width s at l r.moment r.named
+field_width t s at (Cds l) x h = cds_octets t s at l x h
+field_width t s at (Ccs l) x h = ccs_octets t s at l x h
 
 pub bytes_width : (t : Table) (l : Layout) (r : Time) (code : List ℕ) → bytes_of t l r ≡ done code → length code ≡ width_of l
 bytes_width t (Cuc l) r code h = U.write_width l r code h

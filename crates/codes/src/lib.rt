@@ -10,7 +10,7 @@ ghost use Rattle.base.specs.Outcome.{and_then};
 ghost use Rattle.scale.specs.Answers.{recorded, says_record};
 ghost use Rattle.octets.specs.Writes.{roomed, Wrote};
 ghost use Rattle.leap.specs.Builtin.{builtin};
-ghost use Rattle.codes.specs.Reading.{field_of, width_of, scan_of, used_of};
+ghost use Rattle.codes.specs.Reading.{field_of, width_of, scan_in, scan_of, used_of};
 ghost use Rattle.codes.specs.Writing.{bytes_of, fronted, write_of};
 ghost use Rattle.codes.specs.Answers.{says_scan};
 
@@ -42,14 +42,12 @@ pub fn read<'a>(s: &'a [u8], p: Preamble, epoch: i64) -> Taken<'a>
 }
 
 // The answer alone.
-#[tactic(auto, using(crate::proofs::Fields::field_width), unfolding(crate::specs::Reading::scan_of, crate::specs::Reading::scan_in))]
+#[tactic(auto, unfolding(crate::specs::Reading::scan_of))]
 pub fn scan(s: &[u8], p: Preamble, epoch: i64) -> Result<Decoded, Refusal>
     ensures { says_scan result ≡ scan_of builtin s.now p epoch }
 {
     let Head { layout, start } = pfield::read(s, p, Codes::All, epoch)?;
-    let moment = read_field(s, start, layout)?;
-    let used = start + size(layout);
-    Ok(Decoded { moment, used })
+    field(s, start, layout)
 }
 
 // The T-field of a layout that starts at `at`.
@@ -80,6 +78,27 @@ pub fn unread<'a>(s: &'a [u8], a: Result<Decoded, Refusal>) -> &'a [u8]
 {
     let n = a.map_or(0, |d| d.used).min(s.len());
     &s[n..]
+}
+
+// The T-field that starts at `at`, and where it ends. Not over `read_field`: docs/DECISIONS.md counts both shapes.
+#[tactic(auto, using(cuc::proofs::Promises::read_width, crate::proofs::Fields::cds_octets, crate::proofs::Fields::ccs_octets), unfolding(crate::specs::Reading::scan_in))]
+fn field(s: &[u8], at: usize, l: Layout) -> Result<Decoded, Refusal>
+    ensures { says_scan result ≡ scan_in builtin s.now at l }
+{
+    match l {
+        Layout::Cuc(c) => Ok(Decoded {
+            moment: cuc::read(s, at, c)?,
+            used: at + cuc::size(c),
+        }),
+        Layout::Cds(d) => Ok(Decoded {
+            moment: utc::timed(cds::read(s, at, d))?,
+            used: at + cds::size(d),
+        }),
+        Layout::Ccs(c) => Ok(Decoded {
+            moment: utc::timed(ccs::read(s, at, c))?,
+            used: at + ccs::size(c),
+        }),
+    }
 }
 
 // Writes a moment under a P-field and an epoch, with the field in front or without it.
