@@ -19,6 +19,7 @@ ghost use Rattle.place.specs.Binary.{
 };
 ghost use Rattle.place.specs.Text.{text_place, tag_place};
 
+use field::Starts;
 use pfield::{Codes, Head, Layout, Preamble};
 
 // In an ASCII code.
@@ -120,42 +121,39 @@ fn in_ccs(s: &[u8], at: usize, l: ccs::Layout) -> Option<usize>
         .or_else(|| in_segments(s, at, l.segments))
 }
 
-// By the rules of `field`, which takes numbers: a field that is none is bad in its own place, and before the fields behind it.
+// A field that cannot be read counts as the greatest u64, which no rule takes.
 fn in_date(s: &[u8], at: usize, ordinal: bool) -> Option<usize>
     requires { at + 7 ≤ length s.now }
     ensures { result ≡ first_bad (date_in ordinal s.now at) }
 {
-    let year = octets::bcd(s, at, 2).ok();
-    let Some(year) = year.filter(|y| (1..=9999).contains(y)) else {
-        return Some(0);
+    let year = octets::bcd(s, at, 2).unwrap_or(u64::MAX);
+    let starts = Starts {
+        first: 0,
+        second: 2,
+        third: 3,
     };
     if ordinal {
-        let day = octets::bcd(s, at + 2, 2);
-        let good = day.is_ok_and(|d| calendar::is_ordinal(year, d));
-        return (!good).then_some(2);
+        let of_year = octets::bcd(s, at + 2, 2).unwrap_or(u64::MAX);
+        return field::in_ordinal(starts, year, of_year);
     }
-    let month = octets::bcd(s, at + 2, 1).ok();
-    let Some(month) = month.filter(|m| (1..=12).contains(m)) else {
-        return Some(2);
-    };
-    let day = octets::bcd(s, at + 3, 1);
-    let good = day.is_ok_and(|d| calendar::is_date(year, month, d));
-    (!good).then_some(3)
+    let month = octets::bcd(s, at + 2, 1).unwrap_or(u64::MAX);
+    let day = octets::bcd(s, at + 3, 1).unwrap_or(u64::MAX);
+    field::in_date(starts, year, month, day)
 }
 
 fn in_clock(s: &[u8], at: usize) -> Option<usize>
     requires { at + 7 ≤ length s.now }
     ensures { result ≡ first_bad (clock_in s.now at) }
 {
-    let Some(hour) = octets::bcd(s, at + 4, 1).ok().filter(|&h| h <= 23) else {
-        return Some(4);
+    let hour = octets::bcd(s, at + 4, 1).unwrap_or(u64::MAX);
+    let minute = octets::bcd(s, at + 5, 1).unwrap_or(u64::MAX);
+    let second = octets::bcd(s, at + 6, 1).unwrap_or(u64::MAX);
+    let starts = Starts {
+        first: 4,
+        second: 5,
+        third: 6,
     };
-    let Some(minute) = octets::bcd(s, at + 5, 1).ok().filter(|&m| m <= 59) else {
-        return Some(5);
-    };
-    let second = octets::bcd(s, at + 6, 1);
-    let good = second.is_ok_and(|x| clock::is_clock(hour, minute, x));
-    (!good).then_some(6)
+    field::in_clock(starts, hour, minute, second)
 }
 
 // Two digits in each octet.

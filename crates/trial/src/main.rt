@@ -3,13 +3,15 @@
 // Standard input is binary codes end to end, each behind its P octet.
 #![tactic(auto)]
 
+ghost use Rattle.std.specs.Io.{ReadsAtMost};
+
 use base::Refusal;
 use codes::Decoded;
 use codes::setting::{DEFAULT, Setting};
 use pfield::{PField, Preamble};
 use scale::{Record, Seconds, Span};
 use std::io;
-use std::io::{Cursor, Read};
+use std::io::Read;
 
 // So many bytes of the input are read at most.
 const INPUT: usize = 4096;
@@ -27,10 +29,24 @@ fn main(rt: HostRuntime) -> io::Result<()> {
     tell_made(&rt, "record", Record::new(0, Record::TICKS))?;
     tell_made(&rt, "span", Span::new(-4398046511104, Record::TICKS - 1))?;
     tell_made(&rt, "span", Span::new(4398046511104, 0))?;
-    let mut input = Cursor::new([0u8; INPUT]);
-    io::copy(&mut rt.stdin().take(INPUT as u64), &mut input)?;
-    let n = (input.position() as usize).min(INPUT);
-    run(&rt, &input.get_ref()[..n])
+    let mut buf = [0u8; INPUT];
+    let n = read_full(&mut rt.stdin(), &mut buf)?;
+    run(&rt, &buf[..n])
+}
+
+// Reads until the buffer is full or the input ends, and answers how many bytes it put at the start of it.
+fn read_full<R: Read>(input: &mut R, buf: &mut [u8]) -> io::Result<usize>
+    ensures { ReadsAtMost result buf.new }
+{
+    let mut done: usize = 0;
+    while done < buf.len() {
+        let n = input.read(&mut buf[done..])?;
+        if n == 0 {
+            break;
+        }
+        done += n;
+    }
+    Ok(done)
 }
 
 // Each code in turn, until one is refused or none is left.
