@@ -24,13 +24,6 @@ pub struct Receiver {
     pub count: usize,
 }
 
-// What a making answers, and the receiver: it is there whether or not its making is refused.
-#[derive(Clone, Copy)]
-pub struct Made {
-    pub answer: Result<(), Refusal>,
-    pub receiver: Receiver,
-}
-
 // A call's answer, how many T-fields were answered, and the receiver for the next call.
 #[derive(Clone, Copy)]
 pub struct Fed {
@@ -40,17 +33,17 @@ pub struct Fed {
 
 impl Receiver {
     // A receiver that holds nothing yet. One whose making is refused refuses every piece likewise.
-    pub fn new(p: PField, epoch: i64) -> Made
+    pub fn new(p: PField, epoch: i64) -> Fed
         ensures { Makes (made_of p epoch) (holding p epoch []) result }
     {
-        let answer = pfield::lay(p, Codes::All, epoch).map(|_| ());
-        let receiver = Receiver {
+        let answer = pfield::lay(p, Codes::All, epoch).map(|_| 0);
+        let next = Receiver {
             p,
             epoch,
             pending: [0; 12],
             count: 0,
         };
-        Made { answer, receiver }
+        Fed { answer, next }
     }
 
     // A piece of the run: each T-field that it completes is answered by a row. How many these are is told, and the receiver for
