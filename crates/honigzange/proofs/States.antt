@@ -23,6 +23,8 @@ use Rattle.pfield.specs.PField.{octet}
 use Rattle.receiver.specs.Receiver.{Fate, feed_of, next_of}
 use Rattle.receiver.specs.Answers.{Feeds}
 use Rattle.receiver.specs.declared.Receiver.{Receiver}
+use Rattle.receiver.specs.declared.Fed.{Fed}
+use Rattle.base.specs.Said.{said}
 use Rattle.receiver.proofs.Cuts.{few_left}
 use Rattle.honigzange.specs.Cells.{state_of, receiver_in}
 use Rattle.honigzange.specs.Calls.{FeedCells}
@@ -81,12 +83,12 @@ handed_on r low high piece room n state rows new count many h =
     (h.octets ∙ ap (λ (q : Receiver). cell (λ (f : Fate). state_of (next_of q (done f))) (feed_of builtin q piece room) (state_of r)) (given_back r low high) ∙ held_after r x, epoch_stays r x)
 
 -- what is then held is few enough to be counted in an octet
-pub few_next : (r after : Receiver) (piece : List ℕ) (rows new : List (List ℤ)) (n : ℕ) → Feeds (feed_of builtin r piece (length rows)) r after rows new (Ok n) → after.count < 256
-few_next r after piece rows new n h = go (feed_of builtin r piece (length rows)) refl h
+pub few_next : (r : Receiver) (piece : List ℕ) (rows new : List (List ℤ)) (f : Fed) (n : ℕ) → Feeds (feed_of builtin r piece (length rows)) r rows new f → said f.answer ≡ done n → f.next.count < 256
+few_next r piece rows new f n h a = go (feed_of builtin r piece (length rows)) refl h
   where
-    go : (x : Outcome Fate) → feed_of builtin r piece (length rows) ≡ x → Feeds x r after rows new (Ok n) → after.count < 256
+    go : (x : Outcome Fate) → feed_of builtin r piece (length rows) ≡ x → Feeds x r rows new f → f.next.count < 256
     go (done y) e h = rw h.next (omega (arith, few_left builtin r piece (length rows) y e))
-    go (refused m) e h = never m n (sym h.answer)
+    go (refused m) e h = never m n (sym h.answer ∙ a)
 
 -- octets that are there are a number
 pub epoch_read : (s : List ℕ) → 9 ≤ length s → ((i : ℕ) → get_or s i 0 < 256) → count_at s 1 8 ≡ Ok (be (drop 1 s) 8)

@@ -12,7 +12,7 @@ use Rattle.receiver.specs.declared.Receiver.{Receiver}
 fed : (f g : Fed) → f.answer ≡ g.answer → f.next ≡ g.next → f ≡ g
 fed f g a n = λ i. record { answer = a i; next = n i }
 
-pub feed_once : (x : Outcome Fate) (r : Receiver) (old new new' : List (List ℤ)) (f g : Fed) → Feeds x r f.next old new f.answer → Feeds x r g.next old new' g.answer → (f ≡ g) × (new ≡ new')
+pub feed_once : (x : Outcome Fate) (r : Receiver) (old new new' : List (List ℤ)) (f g : Fed) → Feeds x r old new f → Feeds x r old new' g → (f ≡ g) × (new ≡ new')
 feed_once x r old new new' f g a b =
     (fed f g (said_once (given count_of x) f.answer g.answer a.answer b.answer) (a.next ∙ sym b.next), a.rows ∙ sym b.rows)
 
