@@ -9,9 +9,9 @@ use lib.IntN.{ℤ, pos, negsuc}
 use lib.ListN.{length, get_or, drop, set, replicate, length-append, length-set}
 use lib.Seq.{drop-drop, drop_at, get_or_at}
 use Rattle.base.specs.Parts.{plus, minus, bits_of, signed_of}
-use Rattle.base.specs.Outcome.{Outcome, done, refused, cell}
+use Rattle.base.specs.Outcome.{Outcome, done, refused, given, cell}
 use Rattle.base.proofs.Signed.{signed_bits}
-use Rattle.base.proofs.Ladders.{never}
+use Rattle.base.proofs.Ladders.{never, refused_is}
 use Rattle.octets.specs.Places.{be, octets, octet_value, octet_good, octet_of}
 use Rattle.octets.specs.Counts.{count_at}
 use Rattle.octets.proofs.Counts.{told, never_refused}
@@ -21,11 +21,13 @@ use Rattle.octets.proofs.Pastes.{paste_first, paste_one, then, stored, length_pa
 use Rattle.leap.specs.Builtin.{builtin}
 use Rattle.pfield.specs.PField.{octet}
 use Rattle.receiver.specs.Receiver.{Fate, feed_of, next_of}
-use Rattle.receiver.specs.Answers.{Feeds}
+use Rattle.receiver.specs.Answers.{none_by, Feeds}
 use Rattle.receiver.specs.declared.Receiver.{Receiver}
+use Rattle.receiver.specs.declared.Fed.{Fed}
+use Rattle.base.specs.Said.{said}
 use Rattle.receiver.proofs.Cuts.{few_left}
 use Rattle.honigzange.specs.Cells.{state_of, receiver_in}
-use Rattle.honigzange.specs.Calls.{FeedCells}
+use Rattle.honigzange.specs.Calls.{MakeCells, FeedCells}
 use Rattle.base.specs.declared.Refusal.{Refusal}
 use Rattle.std.specs.Prelude.{Result, Ok, Err}
 
@@ -80,13 +82,19 @@ handed_on r low high piece room n state rows new count many h =
     let x = feed_of builtin r piece room in
     (h.octets ∙ ap (λ (q : Receiver). cell (λ (f : Fate). state_of (next_of q (done f))) (feed_of builtin q piece room) (state_of r)) (given_back r low high) ∙ held_after r x, epoch_stays r x)
 
+-- a making that is refused leaves the cells
+module _ (state : List ℕ) where
+  pub make_refused : (x : Outcome Receiver) (n : ℕ) → given none_by x ≡ refused n → MakeCells x n state state
+  make_refused (done r) n h = never n 0 (sym h)
+  make_refused (refused m) n h = record { answer = sym (refused_is m n h); octets = refl }
+
 -- what is then held is few enough to be counted in an octet
-pub few_next : (r after : Receiver) (piece : List ℕ) (rows new : List (List ℤ)) (n : ℕ) → Feeds (feed_of builtin r piece (length rows)) r after rows new (Ok n) → after.count < 256
-few_next r after piece rows new n h = go (feed_of builtin r piece (length rows)) refl h
+pub few_next : (r : Receiver) (piece : List ℕ) (rows new : List (List ℤ)) (f : Fed) (n : ℕ) → Feeds (feed_of builtin r piece (length rows)) r rows new f → said f.answer ≡ done n → f.next.count < 256
+few_next r piece rows new f n h a = go (feed_of builtin r piece (length rows)) refl h
   where
-    go : (x : Outcome Fate) → feed_of builtin r piece (length rows) ≡ x → Feeds x r after rows new (Ok n) → after.count < 256
+    go : (x : Outcome Fate) → feed_of builtin r piece (length rows) ≡ x → Feeds x r rows new f → f.next.count < 256
     go (done y) e h = rw h.next (omega (arith, few_left builtin r piece (length rows) y e))
-    go (refused m) e h = never m n (sym h.answer)
+    go (refused m) e h = never m n (sym h.answer ∙ a)
 
 -- octets that are there are a number
 pub epoch_read : (s : List ℕ) → 9 ≤ length s → ((i : ℕ) → get_or s i 0 < 256) → count_at s 1 8 ≡ Ok (be (drop 1 s) 8)

@@ -17,7 +17,7 @@ pub extern "C" fn hz_receiver_make(p: u8, epoch: i64, receiver: &mut [u8; 22]) -
 {
     let made = Receiver::new(PField { octet: p }, epoch);
     value_of!(made.answer);
-    *receiver = state_of(made.receiver);
+    *receiver = state_of(made.next);
     0
 }
 

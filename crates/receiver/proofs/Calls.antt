@@ -15,8 +15,8 @@ use Rattle.codes.specs.Reading.{width_of}
 use Rattle.codes.proofs.Fields.{width_low}
 use Rattle.receiver.specs.Fields.{whole_in}
 use Rattle.receiver.specs.Receiver.{held_in, layout_of, run_of, fate_of, feed_of}
-use Rattle.receiver.specs.Answers.{Feeds}
-use Rattle.receiver.specs.Inner.{Passed}
+use Rattle.receiver.specs.Inner.{Passed, Accepts}
+use Rattle.receiver.specs.declared.Held.{Held}
 use Rattle.receiver.specs.declared.Receiver.{Receiver}
 use Rattle.receiver.proofs.Runs.{length_answers}
 use Rattle.receiver.proofs.States.{good}
@@ -41,8 +41,8 @@ module _ (r : Receiver) (size : length r.pending ≡ 12) (l : Layout) (e : layou
   pub completed : (piece : List ℕ) → (r.count + length piece) / width_of l ≡ whole_in l (run_of r piece)
   completed piece = ap (λ (n : ℕ). n / width_of l) (sym (length-append (held_in r) piece ∙ ap (λ (n : ℕ). n + length piece) counted))
 
-  pub feeds : (after : Receiver) (piece : List ℕ) (rows new : List (List ℤ)) (n : ℕ) → n ≡ (r.count + length piece) / width_of l → n ≤ length rows → Passed l r piece after rows new → Feeds (feed_of builtin r piece (length rows)) r after rows new (Ok n)
-  feeds after piece rows new n many room p =
+  pub accepts : (piece : List ℕ) (rows new : List (List ℤ)) (n : ℕ) (h : Held) → n ≡ (r.count + length piece) / width_of l → n ≤ length rows → Passed l (run_of r piece) rows new h → Accepts (feed_of builtin r piece (length rows)) rows new (Ok (n, h))
+  accepts piece rows new n h many room p =
       let m : n ≡ whole_in l (run_of r piece) = many ∙ completed piece in
       rw (with_room builtin r piece (length rows) l e (omega arith))
-      (record { answer = ap done (m ∙ sym (length_answers builtin l (run_of r piece))); next = p.next; rows = p.rows })
+      (record { answer = λ i. done ((m ∙ sym (length_answers builtin l (run_of r piece))) i, p.left i); rows = p.rows })

@@ -7,19 +7,15 @@ use Rattle.base.proofs.Once.{said_once}
 use Rattle.receiver.specs.Receiver.{Fate}
 use Rattle.receiver.specs.Answers.{count_of, none_by, Feeds, Makes}
 use Rattle.receiver.specs.declared.Fed.{Fed}
-use Rattle.receiver.specs.declared.Made.{Made}
 use Rattle.receiver.specs.declared.Receiver.{Receiver}
 
 fed : (f g : Fed) → f.answer ≡ g.answer → f.next ≡ g.next → f ≡ g
 fed f g a n = λ i. record { answer = a i; next = n i }
 
-pub feed_once : (x : Outcome Fate) (r : Receiver) (old new new' : List (List ℤ)) (f g : Fed) → Feeds x r f.next old new f.answer → Feeds x r g.next old new' g.answer → (f ≡ g) × (new ≡ new')
+pub feed_once : (x : Outcome Fate) (r : Receiver) (old new new' : List (List ℤ)) (f g : Fed) → Feeds x r old new f → Feeds x r old new' g → (f ≡ g) × (new ≡ new')
 feed_once x r old new new' f g a b =
     (fed f g (said_once (given count_of x) f.answer g.answer a.answer b.answer) (a.next ∙ sym b.next), a.rows ∙ sym b.rows)
 
-made : (f g : Made) → f.answer ≡ g.answer → f.receiver ≡ g.receiver → f ≡ g
-made f g a n = λ i. record { answer = a i; receiver = n i }
-
-pub make_once : (x : Outcome Receiver) (fresh : Receiver) (f g : Made) → Makes x fresh f → Makes x fresh g → f ≡ g
+pub make_once : (x : Outcome Receiver) (fresh : Receiver) (f g : Fed) → Makes x fresh f → Makes x fresh g → f ≡ g
 make_once x fresh f g a b =
-    made f g (said_once (given none_by x) f.answer g.answer a.answer b.answer) (a.receiver ∙ sym b.receiver)
+    fed f g (said_once (given none_by x) f.answer g.answer a.answer b.answer) (a.next ∙ sym b.next)

@@ -1,12 +1,11 @@
 -- What the code's answers say on paper, and what a call promises of all that is lent to it.
-use Rattle.std.specs.Prelude.{◌≡◌, List, [], ◌∷◌, ◌++◌, map, ℕ, ℤ, pos, length, drop, Result}
+use Rattle.std.specs.Prelude.{◌≡◌, List, [], ◌∷◌, ◌++◌, map, ℕ, ℤ, pos, length, drop}
 use Rattle.base.specs.Outcome.{Outcome, done, refused, given}
 use Rattle.scale.specs.Time.{Time}
 use Rattle.receiver.specs.Receiver.{Fate, next_of}
-use Rattle.receiver.specs.declared.Made.{Made}
+use Rattle.receiver.specs.declared.Fed.{Fed}
 use Rattle.receiver.specs.declared.Receiver.{Receiver}
 use Rattle.base.specs.Said.{said}
-use Rattle.base.specs.declared.Refusal.{Refusal}
 
 -- how many answers a piece gives
 abbrev pub count_of : Fate → ℕ
@@ -26,17 +25,17 @@ abbrev pub rows_after : Outcome Fate → List (List ℤ) → List (List ℤ)
 rows_after (done f) old = rows_over f.answers old
 rows_after (refused n) old = old
 
--- a call: its answer, the receiver afterwards and the lent rows
-pub record Feeds (x : Outcome Fate) (r after : Receiver) (old new : List (List ℤ)) (a : Result ℕ Refusal) : Type 0 where
-  pub answer : said a ≡ given count_of x
-  pub next : after ≡ next_of r x
+-- a call: its answer, the next receiver and the lent rows
+pub record Feeds (x : Outcome Fate) (r : Receiver) (old new : List (List ℤ)) (f : Fed) : Type 0 where
+  pub answer : said f.answer ≡ given count_of x
+  pub next : f.next ≡ next_of r x
   pub rows : new ≡ rows_after x old
 
--- a making tells nothing of the receiver but that it is good
-abbrev pub none_by : Receiver → Unit {0}
-none_by r = tt
+-- a making answers no T-field
+abbrev pub none_by : Receiver → ℕ
+none_by r = 0
 
 -- a making: its answer, and the receiver. One that is refused is judged again by each call
-pub record Makes (x : Outcome Receiver) (fresh : Receiver) (m : Made) : Type 0 where
-  pub answer : said m.answer ≡ given none_by x
-  pub receiver : m.receiver ≡ fresh
+pub record Makes (x : Outcome Receiver) (fresh : Receiver) (f : Fed) : Type 0 where
+  pub answer : said f.answer ≡ given none_by x
+  pub next : f.next ≡ fresh

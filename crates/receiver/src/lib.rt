@@ -5,9 +5,9 @@ ghost use Rattle.std.specs.Prelude.{◌≡◌, [], ◌++◌, ◌+◌, ◌*◌, �
 ghost use Rattle.leap.specs.Builtin.{builtin};
 ghost use Rattle.codes.specs.Reading.{field_of, width_of};
 ghost use Rattle.receiver.specs.Fields.{fields_in};
-ghost use Rattle.receiver.specs.Receiver.{holding, held_in, all_zero, made_of, layout_of, feed_of};
+ghost use Rattle.receiver.specs.Receiver.{holding, held_in, all_zero, made_of, layout_of, run_of, feed_of};
 ghost use Rattle.receiver.specs.Answers.{row_of, rows_over, Feeds, Makes};
-ghost use Rattle.receiver.specs.Inner.{padded, Passes, Passed};
+ghost use Rattle.receiver.specs.Inner.{padded, Passes, Passed, Accepts};
 ghost use Rattle.base.specs.Said.{said};
 
 use base::Refusal;
@@ -24,13 +24,6 @@ pub struct Receiver {
     pub count: usize,
 }
 
-// What a making answers, and the receiver: it is there whether or not its making is refused.
-#[derive(Clone, Copy)]
-pub struct Made {
-    pub answer: Result<(), Refusal>,
-    pub receiver: Receiver,
-}
-
 // A call's answer, how many T-fields were answered, and the receiver for the next call.
 #[derive(Clone, Copy)]
 pub struct Fed {
@@ -38,42 +31,56 @@ pub struct Fed {
     pub next: Receiver,
 }
 
+// What a receiver holds of an unfinished T-field.
+#[derive(Clone, Copy)]
+struct Held {
+    bytes: [u8; 12],
+    count: usize,
+}
+
 impl Receiver {
     // A receiver that holds nothing yet. One whose making is refused refuses every piece likewise.
-    pub fn new(p: PField, epoch: i64) -> Made
+    pub fn new(p: PField, epoch: i64) -> Fed
         ensures { Makes (made_of p epoch) (holding p epoch []) result }
     {
-        let answer = pfield::lay(p, Codes::All, epoch).map(|_| ());
-        let receiver = Receiver {
+        let answer = pfield::lay(p, Codes::All, epoch).map(|_| 0);
+        let next = Receiver {
             p,
             epoch,
             pending: [0; 12],
             count: 0,
         };
-        Made { answer, receiver }
+        Fed { answer, next }
     }
 
     // A piece of the run: each T-field that it completes is answered by a row. How many these are is told, and the receiver for
     // the next call handed back, as docs/FORMS.md has it; what is refused leaves the receiver and the rows.
     pub fn feed(mut self, piece: &[u8], rows: &mut [[i64; 3]]) -> Fed
-        ensures { Feeds (feed_of builtin self piece.now (length rows.old)) self result.next rows.old rows.new result.answer }
+        ensures { Feeds (feed_of builtin self piece.now (length rows.old)) self rows.old rows.new result }
     {
-        let answer = self.accept(piece, rows);
+        let answer = match self.accept(piece, rows) {
+            Err(why) => Err(why),
+            Ok((n, left)) => {
+                let longer = left.bytes;
+                self.pending = longer;
+                self.count = left.count;
+                Ok(n)
+            }
+        };
         Fed { answer, next: self }
     }
 
-    // The same in place.
+    // How many T-fields a piece completes, each answered by a row, and what is then held.
     #[tactic(auto, using(crate::proofs::States::few, crate::proofs::Calls::completed), unfolding(crate::specs::Receiver::feed_of))]
-    fn accept(&mut self, piece: &[u8], rows: &mut [[i64; 3]]) -> Result<usize, Refusal>
-        ensures { Feeds (feed_of builtin self.old piece.now (length rows.old)) self.old self.new rows.old rows.new result }
+    fn accept(&self, piece: &[u8], rows: &mut [[i64; 3]]) -> Result<(usize, Held), Refusal>
+        ensures { Accepts (feed_of builtin self.now piece.now (length rows.old)) rows.old rows.new result }
     {
         let l = self.layout()?;
         let n = (self.count + piece.len()) / codes::size(l);
         if rows.len() < n {
             return Err(Refusal::Room);
         }
-        self.pass(l, n, piece, rows);
-        Ok(n)
+        Ok((n, self.pass(l, n, piece, rows)))
     }
 
     // The layout of the T-fields that it takes. A state that no call can have made is out of range.
@@ -103,24 +110,28 @@ impl Receiver {
         &self.pending[..self.count]
     }
 
-    // The n T-fields that a piece completes, each into its row; what is left is then held.
+    // The n T-fields that a piece completes, each into its row; and what is then held.
     #[tactic(auto, using(crate::proofs::Passing::held_low, crate::proofs::Passing::waits_within, crate::proofs::Passing::waits))]
-    fn pass(&mut self, l: Layout, n: usize, piece: &[u8], rows: &mut [[i64; 3]])
-        requires { Passes l n self.old piece.now rows.old }
-        ensures { Passed l self.old piece.now self.new rows.old rows.new }
+    fn pass(&self, l: Layout, n: usize, piece: &[u8], rows: &mut [[i64; 3]]) -> Held
+        requires { Passes l n self.now piece.now rows.old }
+        ensures { Passed l (run_of self.now piece.now) rows.old rows.new result }
     {
+        let held = self.held();
         if n == 0 {
-            self.pending = joined(self.held(), piece);
-            self.count += piece.len();
-            return;
+            return Held {
+                bytes: joined(held, piece),
+                count: self.count + piece.len(),
+            };
         }
-        let run: [u8; 13] = joined(self.held(), piece);
+        let run: [u8; 13] = joined(held, piece);
         rows[0] = row_at(&run, 0, l);
         let lacking = codes::size(l) - self.count;
         let end = go_on(piece, lacking, l, &mut rows[1..n]);
         let rest = &piece[end..];
-        self.pending = joined(&[], rest);
-        self.count = rest.len();
+        Held {
+            bytes: joined(&[], rest),
+            count: rest.len(),
+        }
     }
 }
 

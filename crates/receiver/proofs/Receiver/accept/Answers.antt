@@ -5,7 +5,7 @@ use borrow.Author.Rules.{rules}
 use native.Mathlib.Omega.{arith}
 use Rattle.codes.proofs.Fields.{width_low}
 use Rattle.receiver.proofs.States.{few}
-use Rattle.receiver.proofs.Calls.{feeds}
+use Rattle.receiver.proofs.Calls.{accepts}
 use Rattle.receiver.proofs.Receiver.accept.Goals as goal
 
 pub overflow_add-n : goal.overflow_add-n
@@ -15,4 +15,4 @@ pub returns : goal.returns
 returns c =
     let a = c.args in
     let size : length a.self.now.pending ≡ 12 = search rules in
-    feeds a.self.now size c.in_ok-l.l (sym c.in_ok-l.ensures) _ a.piece.now a.rows.now _ _ (ap (λ (w : ℕ). (a.self.now.count + length a.piece.now) / w) c.size.ensures) c.if-rows-n.false c.pass.ensures
+    accepts a.self.now size c.in_ok-l.l (sym c.in_ok-l.ensures) a.piece.now a.rows.now _ _ _ (ap (λ (w : ℕ). (a.self.now.count + length a.piece.now) / w) c.size.ensures) c.if-rows-n.false c.pass.ensures

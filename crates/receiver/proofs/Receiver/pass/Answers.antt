@@ -23,7 +23,7 @@ size s = search rules
 
 pub returns-then-n-eq0 : goal.returns-then-n-eq0
 returns-then-n-eq0 c =
-    rw (c.joined-self.ensures, c.held.ensures) (waits c.requires (size (goal.at.returns-then-n-eq0 c).Start) c.if-n-eq0.true)
+    rw (c.joined.ensures, c.held-held.ensures) (waits c.requires (size (goal.at.returns-then-n-eq0 c).Start) c.if-n-eq0.true)
 
 pub returns : goal.returns
 returns c =
@@ -32,10 +32,10 @@ returns c =
     let piece = a.piece.now in
     let first = c.row_at.result in
     let fields = fields_in builtin a.l (a.n - 1) (drop (width_of a.l - r.count) piece) in
-    let e : first ≡ row_of (field_of builtin (padded 13 (run_of r piece)) 0 a.l) = rw (c.joined-run.ensures, c.held-2.ensures) at c.row_at.ensures in
+    let e : first ≡ row_of (field_of builtin (padded 13 (run_of r piece)) 0 a.l) = rw (c.joined-run.ensures, c.held-held.ensures) at c.row_at.ensures in
     let n : length (take (a.n - 1) (drop 1 (set a.rows.now 0 first))) ≡ a.n - 1 =
     length-take-le (a.n - 1) (drop 1 (set a.rows.now 0 first)) (omega (arith, c.requires.room, length-drop 1 (set a.rows.now 0 first), length-set a.rows.now 0 first)) in
     let (f, g) = rw (c.size.ensures, n) at c.go_on-end.ensures in
     let rest = take_rest piece c.go_on-end.result in
-    rw (c.joined-self-2.ensures, rest, f, others first a.rows.now _ fields (a.n - 1) (omega (arith, c.requires.room)) g (length_fields builtin a.l (a.n - 1) (drop (width_of a.l - r.count) piece)))
+    rw (c.joined-2.ensures, rest, f, others first a.rows.now _ fields (a.n - 1) (omega (arith, c.requires.room)) g (length_fields builtin a.l (a.n - 1) (drop (width_of a.l - r.count) piece)))
     (answers c.requires (size (goal.at.returns c).Start) (omega arith) first e)
