@@ -1,5 +1,5 @@
 -- The seat is the day's place in the field, and the three numbers stand one after another.
-use mathlib.Core.Path.{◌≡◌, refl, sym, ◌∙◌}
+use mathlib.Core.Path.{◌≡◌, refl, sym, ap, ◌∙◌}
 use Prim.Native.Nat.{◌-◌, ◌^◌}
 use native.Mathlib.Omega.{arith}
 use borrow.Author.Rules.{rules}
@@ -7,9 +7,8 @@ use borrow.Author.Tests.{leb-true, leb-false}
 use lib.IntN.{pos, ◌+ℤ◌}
 use mir.Syntax.{w64}
 use mir.Val.{to_z, of_z}
-use Rattle.std.proofs.lemmas.Int.{ints}
 use Rattle.std.specs.Prelude.{Err, Some, None}
-use Rattle.base.specs.Parts.{At}
+use Rattle.base.specs.Parts.{plus, minus, At}
 use Rattle.base.specs.Seats.{seat_of}
 use Rattle.base.proofs.Signed.{at_sum}
 use Rattle.base.specs.declared.Refusal.TheVariants.{Range}
@@ -29,9 +28,10 @@ seat c =
     let m = many_days l c.args.self.good c.power256.result c.power256.ensures in
     let e : to_z w64 (of_z w64 l.epoch) ≡ l.epoch = search rules in
     let f : to_z w64 (of_z w64 z) ≡ z = search rules in
-    let b : At (2 ^ 63) c.raised.result l.epoch = rw e at c.raised.ensures in
-    let i : l.epoch +ℤ pos (c.power256.result - 1) ≡ c.lowered-last.result = at_sum (2 ^ 63) c.raised.result (c.power256.result - 1) l.epoch c.lowered-last.result b c.lowered-last.ensures in
-    let g : to_z w64 (of_z w64 c.lowered-last.result) ≡ last = omega (arith, ints, m, i) in
+    let b : At (2 ^ 63) c.raised.result l.epoch = omega (arith, c.raised.ensures, ap plus e, ap minus e) in
+    let i : last ≡ c.lowered-last.result = at_sum (2 ^ 63) c.raised.result (256 ^ l.day - 1) l.epoch c.lowered-last.result b (omega (arith, c.lowered-last.ensures, m)) in
+    let k : to_z w64 (of_z w64 c.lowered-last.result) ≡ c.lowered-last.result = search rules in
+    let g : to_z w64 (of_z w64 c.lowered-last.result) ≡ last = k ∙ sym i in
     rw (g, f, e) at c.seated.ensures
 
 pub returns-in_err-day : goal.returns-in_err-day
