@@ -52,6 +52,7 @@ pub fn read(s: &[u8], at: usize, l: Layout) -> Result<Moment, Refusal>
 }
 
 // Writes a moment's T-field from `at` on, the fraction taken downward.
+#[inline(always)] // by count, as `codes::put` has it
 pub fn write(m: Moment, l: Layout, out: &mut [u8], at: usize) -> Result<usize, Refusal>
     ensures { Wrote (and_then (bytes_of l m) (roomed out.old at)) at out.old out.new result }
 {
@@ -135,6 +136,7 @@ impl Judged {
     }
 
     // Writes the T-field of a valid moment.
+    #[inline(always)] // by count, as `codes::put` has it
     #[tactic(auto, using(crate::proofs::Laws::many_days, crate::proofs::Laws::grain, moment::proofs::Laws::moment_parts, std::proofs::lemmas::Int::ints))]
     fn write(self, m: Moment, out: &mut [u8], at: usize) -> Result<usize, Refusal>
         requires { is_moment m ≡ true }

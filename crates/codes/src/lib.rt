@@ -123,7 +123,9 @@ pub fn write_binary(
     }
 }
 
-// The T-field of a moment, stored from `at` on.
+// The T-field of a moment, stored from `at` on. In place, by count, and what it calls of CDS: hz_write_binary takes two
+// thirds of the instructions under CUC, and four fifths under CDS.
+#[inline(always)]
 fn put(r: Record, l: Layout, out: &mut [u8], at: usize) -> Result<usize, Refusal>
     ensures { Wrote (and_then (bytes_of builtin l (recorded r)) (roomed out.old at)) at out.old out.new result }
 {

@@ -43,7 +43,9 @@ pub struct Head {
     pub start: usize,
 }
 
-// Reads the P-field of some bytes, from their front or supplied apart.
+// Reads the P-field of some bytes, from their front or supplied apart. In place, by count: hz_read_binary under CUC takes
+// half the instructions.
+#[inline(always)]
 #[tactic(auto, unfolding(crate::specs::PField::headed_of))]
 pub fn read(s: &[u8], p: Preamble, codes: Codes, epoch: i64) -> Result<Head, Refusal>
     ensures { said result ≡ headed_of codes s.now p epoch }
@@ -61,7 +63,8 @@ pub fn read(s: &[u8], p: Preamble, codes: Codes, epoch: i64) -> Result<Head, Ref
     })
 }
 
-// The layout that a P-field gives.
+// The layout that a P-field gives. In place, by count: its Result in memory costs hz_receiver_make half as much again.
+#[inline(always)]
 #[tactic(auto, using(crate::proofs::Names::none_allowed), unfolding(crate::specs::PField::laid, crate::specs::PField::laid_as, crate::specs::PField::cuc_laid, base::specs::Parts::within))]
 pub fn lay(p: PField, codes: Codes, epoch: i64) -> Result<Layout, Refusal>
     ensures { said result ≡ laid codes p epoch }
