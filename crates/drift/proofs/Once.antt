@@ -4,11 +4,14 @@ use mathlib.Core.List.{List}
 use Prim.Native.Nat.{ℕ, ◌<◌}
 use Rattle.base.specs.Outcome.{Outcome, done, refused}
 use Rattle.base.proofs.Once.{once, says_once}
+use Rattle.scale.specs.Time.{Time}
+use Rattle.scale.specs.Answers.{Record}
 use Rattle.drift.specs.Fraction.{Fraction, below, above}
 use Rattle.drift.specs.Rate.{Pair, quotient_of}
 use Rattle.drift.specs.Run.{nothing, at, twos, report_of}
 use Rattle.drift.specs.Run as R
-use Rattle.drift.specs.Answers.{fraction, says_rate, Rates, says_extreme, Shows, Reports}
+use Rattle.drift.specs.Answers.{paired, fraction, says_rate, Rates, says_extreme, Shows, Reports}
+use Rattle.drift.specs.declared.Pair as P
 use Rattle.drift.specs.declared.Rate.{Rate}
 use Rattle.drift.specs.declared.Extreme as E
 use Rattle.drift.specs.declared.Report.{Report}
@@ -17,6 +20,13 @@ use Rattle.drift.proofs.Tallies.{quotient_some, twos_some}
 use Rattle.drift.proofs.Extremes.{extreme_is}
 use Rattle.std.specs.Prelude.{Result, Option, Some, None}
 use Rattle.base.specs.declared.Refusal.{Refusal}
+
+-- ---- a pair
+abbrev clocked : Time → Record
+clocked t = record { sec = t.sec; ticks = t.ticks }
+
+pub pair_once : (x : Pair) (p q : P.Pair) → paired p ≡ x → paired q ≡ x → p ≡ q
+pair_once = once paired (λ x. record { onboard = clocked x.onboard; ground = clocked x.ground }) (λ p. refl)
 
 answer_of_lem : (o : Outcome Fraction) (a b : Result Rate Refusal) → says_rate a ≡ o → says_rate b ≡ o → a ≡ b
 answer_of_lem =
