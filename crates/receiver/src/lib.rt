@@ -99,7 +99,9 @@ impl Receiver {
     fn clear(&self) -> bool
         ensures { result ≡ all_zero (drop self.now.count self.now.pending) }
     {
-        self.pending.iter().skip(self.count).all(|&b| b == 0)
+        // in a copy: what is indexed at run time lies in memory, and the octets of the receiver itself then need not
+        let pending = self.pending;
+        pending.iter().skip(self.count).all(|&b| b == 0)
     }
 
     // The octets that it holds of an unfinished T-field.
