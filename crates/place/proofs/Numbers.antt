@@ -55,7 +55,7 @@ most = 18446744073709551615
 abbrev pub number_of : Result ℕ Refusal → ℕ
 number_of r = result_unwrap_or r 18446744073709551615
 
-kept_as : (r : Result ℕ Refusal) (rule : ℕ → Bool) → rule most ≡ false → kept r rule ≡ rule (number_of r)
+pub kept_as : (r : Result ℕ Refusal) (rule : ℕ → Bool) → rule most ≡ false → kept r rule ≡ rule (number_of r)
 kept_as (Ok n) rule e = refl
 kept_as (Err why) rule e = sym e
 
