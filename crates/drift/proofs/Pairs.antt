@@ -6,22 +6,21 @@ use native.Mathlib.Nat.{div-add-mod'}
 use native.Mathlib.Omega.{arith}
 use lib.Dec.{ltb}
 use lib.IntN.{ℤ, pos, negsuc, nat_abs, ◌-ℤ◌, ◌*ℤ◌}
-use Rattle.std.specs.Prelude.{Option, Some, None}
-use Rattle.std.specs.Option.{option_zip}
-use Rattle.std.proofs.lemmas.Option.{some_pair_parts}
 use borrow.Author.Tests.{ltb-true, ltb-false, eqb-true}
 use Rattle.base.specs.Outcome.{done, refused, need}
 use Rattle.base.specs.Parts.{plus, minus, lowered_by}
-use Rattle.base.proofs.Bools.{and_true, and_yes, and_no, and_false, by_two}
+use Rattle.base.proofs.Bools.{and_true, by_two}
 use Rattle.base.proofs.Ladders.{need_yes, need_no}
 use Rattle.base.proofs.Signed.{same, line, difference, lower_is, times_plus, times_minus, neg_plus, neg_minus, abs_is, lt_yes, lt_no, lt_so, lt_not, within_yes, within_under, within_over}
 use Rattle.scale.specs.Time.{Time, per_second, worth, is_record}
 use Rattle.scale.proofs.Laws.{worth_parts}
-use Rattle.drift.specs.Rate.{Pair, step, of_all, on_grid, elapsed, short, passed, quotient_of}
+use Rattle.drift.specs.Rate.{step, of_all, on_grid, elapsed, short, passed, quotient_of}
 use Rattle.drift.specs.Steps.{most, least, near, rated}
-use Rattle.drift.specs.Inner.{of_both, Marked, Stands, Judges, steps_of, apart}
+use Rattle.drift.specs.Answers.{paired}
+use Rattle.drift.specs.Inner.{of_both, Marked, Stands, steps_of, apart}
 use Rattle.drift.specs.declared.Mark.{Mark}
 use Rattle.drift.specs.declared.Marks.{Marks}
+use Rattle.drift.specs.declared.Judged.{Judged}
 use Rattle.drift.proofs.Terms.{abs_times}
 
 -- ---- a record on the grid
@@ -85,51 +84,32 @@ passed_ticks z =
     (λ h. lt_not (pos 0) z (omega (arith, lt_no (pos 0) (z *ℤ pos step) h, times_plus z step, times_minus z step)))
 
 -- ---- the quotient
-not_records : (a b : Option (Option Marks)) (p q : Pair) → Judges p a → Judges q b → option_zip a b ≡ None → of_all is_record p q ≡ false
-not_records None b p q h k e = and_no (of_both is_record q) h
-not_records (Some x) None p q h k e = and_false (of_both is_record p) (of_both is_record q) k
-not_records (Some x) (Some y) p q h k e = absurd (cc)
-
-not_gridded : (x y : Option Marks) (p q : Pair) → Stands p x → Stands q y → option_zip x y ≡ None → of_all on_grid p q ≡ false
-not_gridded None y p q h k e = and_no (of_both on_grid q) h
-not_gridded (Some m) None p q h k e = and_false (of_both on_grid p) (of_both on_grid q) k
-not_gridded (Some m) (Some n) p q h k e = absurd (cc)
-
-zipped : {A : Type 0} (a b : Option A) {x y : A} → option_zip a b ≡ Some (x, y) → (a ≡ Some x) × (b ≡ Some y)
-zipped None b e = absurd (cc)
-zipped (Some x) None e = absurd (cc)
-zipped (Some m) (Some n) e = let (f, g) = some_pair_parts _ _ _ _ e in (ap Some f, ap Some g)
-
 -- a number of steps over another, and the same of their ticks
 on_ticks : (x y : ℤ) → need (short (x *ℤ pos step) && short (y *ℤ pos step)) 7 (need (passed (y *ℤ pos step)) 10 (done (record { num = x *ℤ pos step; den = nat_abs (y *ℤ pos step) }))) ≡ rated x y
 unfolding rated
 on_ticks x y = rw (short_near x, short_near y, passed_ticks y, abs_times y step)
 
-module _ (p q : Pair) (a b : Option (Option Marks)) (ja : Judges p a) (jb : Judges q b) where
-  pub invalid : option_zip a b ≡ None → refused 7 ≡ quotient_of p q
+module _ (a b : Judged) where
+  pub invalid : a.valid && b.valid ≡ false → refused 7 ≡ quotient_of (paired a.pair) (paired b.pair)
   unfolding quotient_of
-  invalid e = sym (need_no 7 _ (not_records a b p q ja jb e))
+  invalid e = sym (need_no 7 _ (rw (a.records, b.records) at e))
 
-  module _ {x y : Option Marks} (e : option_zip a b ≡ Some (x, y)) where
-    stands : (of_all is_record p q ≡ true) × Stands p x × Stands q y
-    stands =
-        let (f, g) = zipped a b e in
-        let (v, s) = rw f at ja in
-        let (w, t) = rw g at jb in
-        (and_yes (of_both is_record q) v ∙ w, s, t)
+  module _ (e : a.valid && b.valid ≡ true) where
+    records : of_all is_record (paired a.pair) (paired b.pair) ≡ true
+    records = rw (a.records, b.records) at e
 
-    pub off_grid : option_zip x y ≡ None → refused 11 ≡ quotient_of p q
+    pub off_grid : a.gridded && b.gridded ≡ false → refused 11 ≡ quotient_of (paired a.pair) (paired b.pair)
     unfolding quotient_of
-    off_grid f = let (v, s, t) = stands in sym (need_yes 7 _ v ∙ need_no 11 _ (not_gridded x y p q s t f))
+    off_grid f = sym (need_yes 7 _ records ∙ need_no 11 _ (rw (a.grid, b.grid) at f))
 
-    pub on_paper : {m n : Marks} → option_zip x y ≡ Some (m, n) → rated (apart m.onboard n.onboard) (apart m.ground n.ground) ≡ quotient_of p q
+    pub on_paper : (m n : Marks) → a.gridded && b.gridded ≡ true → Stands (paired a.pair) m → Stands (paired b.pair) n → rated (apart m.onboard n.onboard) (apart m.ground n.ground) ≡ quotient_of (paired a.pair) (paired b.pair)
     unfolding quotient_of
-    on_paper {m} {n} f =
-        let (v, s, t) = stands in
-        let (g, h) = zipped x y f in
-        let (i, so, sg) = rw g at s in
-        let (j, to, tg) = rw h at t in
+    on_paper m n f s t =
+        let p = paired a.pair in
+        let q = paired b.pair in
+        let g : of_all on_grid p q ≡ true = rw (a.grid, b.grid) at f in
+        let (i, j) = and_true (of_both on_grid p) (of_both on_grid q) g in
         let (po, pg) = and_true (on_grid p.onboard) (on_grid p.ground) i in
         let (qo, qg) = and_true (on_grid q.onboard) (on_grid q.ground) j in
-        sym (need_yes 7 _ v ∙ need_yes 11 _ (and_yes (of_both on_grid q) i ∙ j)
-        ∙ rw (apart_ticks p.onboard q.onboard m.onboard n.onboard so to po qo, apart_ticks p.ground q.ground m.ground n.ground sg tg pg qg) (on_ticks (apart m.onboard n.onboard) (apart m.ground n.ground)))
+        sym (need_yes 7 _ records ∙ need_yes 11 _ g
+        ∙ rw (apart_ticks p.onboard q.onboard m.onboard n.onboard s.onboard t.onboard po qo, apart_ticks p.ground q.ground m.ground n.ground s.ground t.ground pg qg) (on_ticks (apart m.onboard n.onboard) (apart m.ground n.ground)))

@@ -5,15 +5,14 @@ use Prim.Native.Nat.{ℕ, ◌+◌, ◌<◌, ◌≤◌}
 use native.Mathlib.Omega.{arith}
 use lib.IntN.{ℤ}
 use lib.ListN.{length, get_or, drop}
-use Rattle.std.specs.Prelude.{Option}
 use Rattle.std.proofs.lemmas.List.{length_push, at_drop_more, at_drop_all}
 use Rattle.base.specs.Outcome.{Outcome}
 use Rattle.drift.specs.Fraction.{Fraction}
-use Rattle.drift.specs.Rate.{Pair, quotient_of}
+use Rattle.drift.specs.Rate.{quotient_of}
 use Rattle.drift.specs.Run.{after, twos, Report, report_on, report_of}
-use Rattle.drift.specs.Answers.{pair_in}
-use Rattle.drift.specs.Inner.{Judges, counted, says_tally, none_of, noted_of}
-use Rattle.drift.specs.declared.Marks.{Marks}
+use Rattle.drift.specs.Answers.{paired, pair_in}
+use Rattle.drift.specs.Inner.{counted, says_tally, none_of, noted_of}
+use Rattle.drift.specs.declared.Judged.{Judged}
 use Rattle.drift.specs.declared.Tally.{Tally}
 use Rattle.drift.proofs.Extremes.{Each, none, each_first, each_last}
 use Rattle.drift.proofs.Tallies.{twos_some, Tallied, tallied_none, tallied_next, tallied_report}
@@ -31,37 +30,31 @@ noting_is pre (o ∷ os) x s h t =
     rw (append_assoc, length_push) at (noting_is (pre ++ o ∷ []) os (noted_of x (length pre) o) (each_last s i) j (tallied_next pre s x o t))
 
 -- before a turn: the pair that is held, and what the run comes to with the rows that are left
-pub record Sofar (run rows : List (List ℤ)) (k : ℕ) (t : Tally) (held : Option (Option Marks)) : Type 0 where
-  pub pair : Pair
-  pub judged : Judges pair held
+pub record Sofar (run rows : List (List ℤ)) (k : ℕ) (t : Tally) (held : Judged) : Type 0 where
   pub few : counted t ≤ k
-  pub comes : noting (says_tally t) k (after pair (map pair_in (drop k rows))) ≡ report_of (map pair_in run)
+  pub comes : noting (says_tally t) k (after (paired held.pair) (map pair_in (drop k rows))) ≡ report_of (map pair_in run)
 
-pub begins : (run rows : List (List ℤ)) (row : List ℤ) (t : Tally) (held : Option (Option Marks)) → run ≡ row ∷ rows → says_tally t ≡ none_of → Judges (pair_in row) held → Sofar run rows 0 t held
+pub begins : (run rows : List (List ℤ)) (row : List ℤ) (t : Tally) (held : Judged) → run ≡ row ∷ rows → says_tally t ≡ none_of → paired held.pair ≡ pair_in row → Sofar run rows 0 t held
 unfolding twos
 begins run rows row t held e n j =
     record {
-      pair = pair_in row;
-      judged = j;
       few = omega (arith, ap (λ (x : Report). x.rates + x.range + x.not_elapsed + x.off_grid) n);
-      comes = rw (n, e) (noting_is [] (twos (map pair_in (row ∷ rows))) none_of none (twos_some (map pair_in (row ∷ rows))) tallied_none);
+      comes = rw (n, e, j) (noting_is [] (twos (map pair_in (row ∷ rows))) none_of none (twos_some (map pair_in (row ∷ rows))) tallied_none);
     }
 
-module _ (run rows : List (List ℤ)) (k : ℕ) (t : Tally) (held : Option (Option Marks)) (s : Sofar run rows k t held) where
-  pub goes_on : (next : Option (Option Marks)) (o : Outcome Fraction) (t' : Tally) → k < length rows → Judges (pair_in (get_or rows k [])) next
-      → ((p q : Pair) → Judges p held → Judges q next → o ≡ quotient_of p q) → counted t' ≡ counted t + 1 → says_tally t' ≡ noted_of (says_tally t) k o → Sofar run rows (k + 1) t' next
+module _ (run rows : List (List ℤ)) (k : ℕ) (t : Tally) (held : Judged) (s : Sofar run rows k t held) where
+  pub goes_on : (next : Judged) (o : Outcome Fraction) (t' : Tally) → k < length rows → paired next.pair ≡ pair_in (get_or rows k [])
+      → o ≡ quotient_of (paired held.pair) (paired next.pair) → counted t' ≡ counted t + 1 → says_tally t' ≡ noted_of (says_tally t) k o → Sofar run rows (k + 1) t' next
   unfolding noting after
   goes_on next o t' h j q c n =
       record {
-        pair = pair_in (get_or rows k []);
-        judged = j;
         few = omega (arith, s.few);
-        comes = rw (n, q s.pair _ s.judged j) (sym (at_drop_more (λ (l : List (List ℤ)). noting (says_tally t) k (after s.pair (map pair_in l))) rows k [] h) ∙ s.comes);
+        comes = rw (n, q, j) (sym (at_drop_more (λ (l : List (List ℤ)). noting (says_tally t) k (after (paired held.pair) (map pair_in l))) rows k [] h) ∙ s.comes);
       }
 
   pub ends : length rows ≤ k → says_tally t ≡ report_of (map pair_in run)
   unfolding noting after
-  ends h = sym (at_drop_all (λ (l : List (List ℤ)). noting (says_tally t) k (after s.pair (map pair_in l))) rows k h) ∙ s.comes
+  ends h = sym (at_drop_all (λ (l : List (List ℤ)). noting (says_tally t) k (after (paired held.pair) (map pair_in l))) rows k h) ∙ s.comes
 
 -- a run of no row
 pub empty : (run : List (List ℤ)) → run ≡ [] → none_of ≡ report_of (map pair_in run)

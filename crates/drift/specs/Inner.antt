@@ -2,9 +2,9 @@
 use Rattle.std.specs.Prelude.{◌≡◌, Bool, true, false, cond, ◌&&◌, ℕ, ◌+◌, ◌/◌, ◌^◌, ℤ, pos, ◌+ℤ◌, ◌-ℤ◌, ◌*ℤ◌, Result, Option, Ok, Err, Some, None}
 use Rattle.base.specs.Outcome.{Outcome, done, refused}
 use Rattle.base.specs.Parts.{At, lowered_by}
-use Rattle.scale.specs.Time.{Time, is_record}
+use Rattle.scale.specs.Time.{Time}
 use Rattle.drift.specs.Fraction.{Fraction, below, above}
-use Rattle.drift.specs.Rate.{Pair, step, on_grid}
+use Rattle.drift.specs.Rate.{Pair, step}
 use Rattle.drift.specs.Run.{Extreme, nothing, at, Report, is_rate, is_refusal}
 use Rattle.drift.specs.Steps.{most, near, ratio}
 use Rattle.drift.specs.declared.NoRate.{NoRate}
@@ -29,15 +29,10 @@ pub record Marked (t : Time) (m : Mark) : Type 0 where
   pub seconds : At (2 ^ 63) m.sec t.sec
   pub steps : m.steps ≡ t.ticks / step
 
--- where a pair of records stands: nowhere, where one is off the grid
-abbrev pub Stands : Pair → Option Marks → Type 0
-Stands p None = of_both on_grid p ≡ false
-Stands p (Some m) = (of_both on_grid p ≡ true) × Marked p.onboard m.onboard × Marked p.ground m.ground
-
--- .. and that, unless one is invalid
-abbrev pub Judges : Pair → Option (Option Marks) → Type 0
-Judges p None = of_both is_record p ≡ false
-Judges p (Some s) = (of_both is_record p ≡ true) × Stands p s
+-- where a pair of records stands
+pub record Stands (p : Pair) (m : Marks) : Type 0 where
+  pub onboard : Marked p.onboard m.onboard
+  pub ground : Marked p.ground m.ground
 
 -- ---- elapsed times
 -- all steps of a mark, and those from one to another

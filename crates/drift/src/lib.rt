@@ -1,11 +1,12 @@
 // Drift: the exact rate between two pairs of an onboard and a ground record, and the extremes over a run of pairs.
 #![tactic(auto)]
 
-ghost use Rattle.std.specs.Prelude.{◌≡◌, ◌+◌, ◌*◌, ◌^◌, ◌<◌, ◌≤◌, ltb, map};
+ghost use Rattle.std.specs.Prelude.{◌≡◌, ◌&&◌, ◌+◌, ◌*◌, ◌/◌, ◌^◌, ◌<◌, ◌≤◌, ltb, map};
 ghost use Rattle.std.specs.Int.{IsGcd};
+ghost use Rattle.scale.specs.Time.{is_record};
 ghost use Rattle.scale.specs.Answers.{recorded};
 ghost use Rattle.drift.specs.Fraction.{Lowest};
-ghost use Rattle.drift.specs.Rate.{on_grid, quotient_of};
+ghost use Rattle.drift.specs.Rate.{step, on_grid, quotient_of};
 ghost use Rattle.drift.specs.Run.{report_of};
 ghost use Rattle.drift.specs.Answers.{paired, pair_in, fraction, says_rate, Rates, Reports};
 ghost use Rattle.drift.specs.Steps.{most};
@@ -89,8 +90,7 @@ impl From<[i64; 4]> for Pair {
 }
 
 impl Pair {
-    ghost use Rattle.scale.specs.Time.{is_record};
-    ghost use Rattle.drift.specs.Inner.{of_both, Judges};
+    ghost use Rattle.drift.specs.Inner.{of_both};
 
     // Both records at once, with `&`: a branch between them is slower.
     fn valid(self) -> bool
@@ -106,18 +106,15 @@ impl Pair {
     }
 
     fn judged(self) -> Judged
-        ensures { Judges (paired self) result }
+        ensures { result.pair ≡ self }
     {
-        if !self.valid() {
-            return None;
+        Judged {
+            pair: self,
+            onboard_steps: self.onboard.ticks / STEP_TICKS,
+            ground_steps: self.ground.ticks / STEP_TICKS,
+            valid: self.valid(),
+            gridded: self.on_grid(),
         }
-        if !self.on_grid() {
-            return Some(None);
-        }
-        Some(Some(Marks {
-            onboard: Mark::of(self.onboard),
-            ground: Mark::of(self.ground),
-        }))
     }
 }
 
@@ -170,7 +167,8 @@ struct Best {
 }
 
 impl Tally {
-    ghost use Rattle.drift.specs.Inner.{counted, says_tally, noted_of, says_quotient};
+    ghost use Rattle.base.specs.Outcome.{done};
+    ghost use Rattle.drift.specs.Inner.{counted, says_tally, noted_of, quotient_as, says_quotient};
 
     // With one two more, at a place.
     fn note(&mut self, place: usize, two: Result<Quotient, NoRate>)
@@ -179,20 +177,28 @@ impl Tally {
         ensures noted { says_tally self.new ≡ noted_of (says_tally self.old) place (says_quotient two) }
     {
         match two {
-            Ok(quotient) => {
-                self.rates += 1;
-                let rate = Mixed::from(quotient);
-                let found = Some(Best { place, rate });
-                if self.smallest.is_none_or(|best| rate.before(best.rate)) {
-                    self.smallest = found;
-                }
-                if self.largest.is_none_or(|best| best.rate.before(rate)) {
-                    self.largest = found;
-                }
-            }
+            Ok(quotient) => self.add(place, quotient),
             Err(NoRate::OutOfRange) => self.range += 1,
             Err(NoRate::NotElapsed) => self.not_elapsed += 1,
             Err(NoRate::OffGrid) => self.off_grid += 1,
+        }
+    }
+
+    // With one rate more, at a place. Called, and not put in place: the twos that have no rate are then noted faster.
+    #[inline(never)]
+    fn add(&mut self, place: usize, quotient: Quotient)
+        requires { counted self.old + 1 < 2 ^ 64 }
+        ensures one_more { counted self.new ≡ counted self.old + 1 }
+        ensures noted { says_tally self.new ≡ noted_of (says_tally self.old) place (done (quotient_as quotient)) }
+    {
+        self.rates += 1;
+        let rate = Mixed::from(quotient);
+        let found = Some(Best { place, rate });
+        if self.smallest.is_none_or(|best| rate.before(best.rate)) {
+            self.smallest = found;
+        }
+        if self.largest.is_none_or(|best| best.rate.before(rate)) {
+            self.largest = found;
         }
     }
 
@@ -246,16 +252,17 @@ struct Mark {
 
 impl Mark {
     ghost use Rattle.std.specs.Prelude.{true};
-    ghost use Rattle.scale.specs.Time.{is_record};
     ghost use Rattle.drift.specs.Inner.{Marked, apart, Elapses};
 
-    fn of(r: Record) -> Mark
-        requires { is_record (recorded r) ≡ true }
+    // Of a record, with its whole steps.
+    fn of(r: Record, steps: u64) -> Mark
+        requires record { is_record (recorded r) ≡ true }
+        requires whole { steps ≡ r.ticks / step }
         ensures { Marked (recorded r) result }
     {
         Mark {
             sec: r.raised(),
-            steps: r.ticks / STEP_TICKS,
+            steps,
         }
     }
 
@@ -264,13 +271,21 @@ impl Mark {
     fn steps_to(self, to: Mark) -> Option<u64>
         ensures { Elapses (apart self to) result }
     {
-        // seconds, raised by LIMIT
-        let sec = (to.sec + LIMIT).checked_sub(self.sec)?;
+        // seconds, raised by LIMIT; compared, since `checked_sub` is slower
+        let end = to.sec + LIMIT;
+        if end < self.sec {
+            return None;
+        }
+        let sec = end - self.sec;
         if 2 * LIMIT < sec {
             return None;
         }
         // steps, raised by MOST
-        let steps = (sec * STEPS + to.steps).checked_sub(self.steps + 1)?;
+        let end = sec * STEPS + to.steps;
+        if end <= self.steps {
+            return None;
+        }
+        let steps = end - self.steps - 1;
         if 2 * MOST < steps {
             return None;
         }
@@ -278,16 +293,43 @@ impl Mark {
     }
 }
 
-// Where a pair of records stands that is on the grid.
+// Where a pair of records stands.
 #[derive(Clone, Copy)]
 struct Marks {
     onboard: Mark,
     ground: Mark,
 }
 
-// A pair: None where a record is invalid, and Some(None) where one is off the grid. Options, so that `zip` judges two pairs
-// in the order of the refusals: an invalid record of either before one that is off the grid.
-type Judged = Option<Option<Marks>>;
+// A pair, the whole steps of its ticks, whether both records are valid, and whether both are on the grid. Flags, and numbers
+// that any pair has: an Option with the marks in it is slower.
+#[derive(Clone, Copy)]
+struct Judged {
+    pair: Pair,
+    onboard_steps: u64,
+    ground_steps: u64,
+    valid: bool,
+    gridded: bool,
+    ghost onboard: { onboard_steps ≡ pair.onboard.ticks / step },
+    ghost ground: { ground_steps ≡ pair.ground.ticks / step },
+    ghost records: { valid ≡ is_record (recorded pair.onboard) && is_record (recorded pair.ground) },
+    ghost grid: { gridded ≡ on_grid (recorded pair.onboard) && on_grid (recorded pair.ground) },
+}
+
+impl Judged {
+    ghost use Rattle.std.specs.Prelude.{true};
+    ghost use Rattle.drift.specs.Inner.{Stands};
+
+    // Where it stands, if it is valid.
+    fn marks(self) -> Marks
+        requires { self.valid ≡ true }
+        ensures { Stands (paired self.pair) result }
+    {
+        Marks {
+            onboard: Mark::of(self.pair.onboard, self.onboard_steps),
+            ground: Mark::of(self.pair.ground, self.ground_steps),
+        }
+    }
+}
 
 impl Marks {
     ghost use Rattle.drift.specs.Steps.{rated};
@@ -320,16 +362,19 @@ struct Quotient {
 }
 
 impl Quotient {
-    ghost use Rattle.drift.specs.Rate as P;
-    ghost use Rattle.drift.specs.Inner.{Judges, says_quotient, quotient_as};
+    ghost use Rattle.drift.specs.Inner.{says_quotient, quotient_as};
 
     // Of two judged pairs: an invalid record of either comes before one off the grid.
     fn between(first: Judged, second: Judged) -> Result<Quotient, NoRate>
-        ensures { (p q : P.Pair) → Judges p first → Judges q second → says_quotient result ≡ quotient_of p q }
+        ensures { says_quotient result ≡ quotient_of (paired first.pair) (paired second.pair) }
     {
-        let (first, second) = first.zip(second).ok_or(NoRate::OutOfRange)?;
-        let (from, to) = first.zip(second).ok_or(NoRate::OffGrid)?;
-        from.quotient_to(to)
+        if !(first.valid & second.valid) {
+            return Err(NoRate::OutOfRange);
+        }
+        if !(first.gridded & second.gridded) {
+            return Err(NoRate::OffGrid);
+        }
+        first.marks().quotient_to(second.marks())
     }
 
     // In lowest terms.

@@ -1,6 +1,7 @@
 use Rattle.std.proofs.Common.{◌≡◌, ◌-◌, arith, rules}
 use Rattle.std.specs.Int.{div_ceil}
 use Rattle.std.proofs.lemmas.Grind.{common_steps}
+use Rattle.std.proofs.lemmas.List.{append-nil, take_all, drop_all}
 use Rattle.base.proofs.Ladders.{need_yes, need_no}
 use Rattle.window.proofs.Room.{lists_refused}
 use Rattle.counter.specs.Counter.{list_of}
@@ -24,4 +25,4 @@ returns c =
     let a = c.args in
     let e : c.div_ceil.result ≡ div_ceil (a.from - a.base) a.period = cc in
     let g : Good a.base a.period a.from a.to = record { some = search rules; short = grind (arith, common_steps); based = omega arith; starts = omega arith; ends = omega arith } in
-    rw (need_yes 7 _ (good_so _ _ _ _ g), all_left _ _ _ _ _ g.some e) c.fill-listed.ensures
+    rw (need_yes 7 _ (good_so _ _ _ _ g), all_left _ _ _ _ _ g.some e) (grind (arith, append-nil, take_all, drop_all))

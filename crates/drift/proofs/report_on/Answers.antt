@@ -13,11 +13,11 @@ returns-in_default c =
 pub loop-place-init : goal.loop-place-init
 loop-place-init c =
     let e : says_tally c.default-tally.result ≡ none_of = search rules in
-    begins c.args.run.now c.in-Some.rest.now c.in-Some.first.now _ _ c.in-Some.ensures.cases.0 e (rw c.from.ensures at c.judged-held.ensures)
+    begins c.args.run.now c.in-Some.rest.now c.in-Some.first.now _ _ c.in-Some.ensures.cases.0 e (rw c.judged-held.ensures c.from.ensures)
 
 pub loop-place-preserved : goal.loop-place-preserved
 loop-place-preserved c =
-    goes_on _ c.in-Some.rest.now c.loop-place.place _ _ c.loop-place.invariant _ _ _ c.loop-place-test.true (rw c.from-in-loop-place.ensures at c.judged-next.ensures) c.between.ensures c.note.ensures.one_more c.note.ensures.noted
+    goes_on _ c.in-Some.rest.now c.loop-place.place _ _ c.loop-place.invariant _ _ _ c.loop-place-test.true (rw c.judged-next.ensures c.from-in-loop-place.ensures) c.between.ensures c.note.ensures.one_more c.note.ensures.noted
 
 pub returns : goal.returns
 returns c = rw (ends _ _ _ _ _ c.loop-place.invariant c.loop-place-test.false) at c.report-2.ensures

@@ -9,5 +9,5 @@ use Rattle.drift.proofs.Mark.of.Goals as goal
 
 pub invariant_of-result : goal.invariant_of-result
 invariant_of-result c =
-    let w = good_within (2 ^ 41) (recorded c.args.r) (lit< tt) c.requires in
-    record { low = omega (arith, apart c.args.r.sec); high = omega (arith, apart c.args.r.sec); few = omega arith }
+    let w = good_within (2 ^ 41) (recorded c.args.r) (lit< tt) c.requires.record in
+    record { low = omega (arith, apart c.args.r.sec); high = omega (arith, apart c.args.r.sec); few = omega (arith, c.requires.whole) }

@@ -15,4 +15,4 @@ pub returns : goal.returns
 returns c =
     let a = c.args in
     let size : length a.self.now.pending ≡ 12 = search rules in
-    accepts a.self.now size c.in_ok-l.l (sym c.in_ok-l.ensures) a.piece.now a.rows.now _ _ _ (ap (λ (w : ℕ). (a.self.now.count + length a.piece.now) / w) c.size.ensures) c.if-rows-n.false c.pass.ensures
+    accepts a.self.now size c.in_ok-l.l (sym c.in_ok-l.ensures) a.piece.now a.rows.now _ _ _ (omega (arith, ap (λ (w : ℕ). (a.self.now.count + length a.piece.now) / w) c.size.ensures)) c.if-rows-n.false c.pass.ensures
